@@ -1,0 +1,4 @@
+pub mod Cells
+pub mod Flat
+pub mod MaskRom
+pub mod Of

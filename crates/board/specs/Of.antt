@@ -1,0 +1,22 @@
+-- The meaning of each make of board.
+use mathlib.Core.List.{List}
+use Prim.Native.Nat.{ℕ}
+use Rattle.std.specs.Of.Vec.{vec-items}
+use Rattle.board.specs.declared.flat.FlatBoard.{FlatBoard}
+use Rattle.board.specs.declared.mask_rom.MaskRomBoard.{MaskRomBoard}
+use Rattle.board.specs.Cells.{Cells}
+use Rattle.board.specs.Flat.{flatCells, FlatRest, flatRest}
+use Rattle.board.specs.MaskRom.{maskRomCells}
+
+abbrev pub flat-cells : FlatBoard → Cells
+flat-cells b = flatCells (vec-items (b .memory)) (b .«fixed_below»)
+
+abbrev pub flat-rest : FlatBoard → FlatRest
+flat-rest b = flatRest (vec-items (b .memory)) (b .«fixed_below»)
+
+abbrev pub mask-rom-cells : MaskRomBoard → Cells
+mask-rom-cells b = maskRomCells (vec-items (b .rom)) (b .ram)
+
+-- no write changes the ROM image
+abbrev pub mask-rom-image : MaskRomBoard → List ℕ
+mask-rom-image b = vec-items (b .rom)

@@ -1,0 +1,4 @@
+pub mod Psw
+pub mod Numbering
+pub mod Bench
+pub mod Answers
