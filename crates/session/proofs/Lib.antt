@@ -1,0 +1,3 @@
+pub mod Putting
+pub mod Loading
+pub mod Playing

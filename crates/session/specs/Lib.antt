@@ -1,0 +1,6 @@
+pub mod Text
+pub mod Appends
+pub mod Sheet
+pub mod Faults
+pub mod Load
+pub mod Play

@@ -1,0 +1,6 @@
+// Plays sessions: records that load a memory and a bench core, and the listing of what came of them.
+pub mod fault;
+mod listing;
+mod load;
+pub mod play;
+mod sheet;
