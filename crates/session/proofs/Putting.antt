@@ -63,3 +63,8 @@ puts-none old = record { after = refl; moves = refl; inside = omega arith; size 
 
 pub puts-text : {old new : List ℕ} {at next : ℕ} {t u : List ℕ} → t ≡ u → Puts old at t new next → Puts old at u new next
 puts-text {old} {new} {at} {next} e p = let P : List ℕ → Type 0 = λ x. Puts old at x new next in subst P e p
+
+-- what was put at the start is the front of the buffer
+pub front : {old new : List ℕ} {n : ℕ} {t : List ℕ} → Puts old 0 t new n → take n new ≡ t
+unfolding over
+front {old} {new} {n} {t} p = ap (take n) (p .after) ∙ take-at t (drop (0 + length t) old) n (omega (arith, p .moves))

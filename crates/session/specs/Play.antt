@@ -3,7 +3,7 @@ use mathlib.Core.Bool.{cond}
 use mathlib.Core.List.{List, []}
 use Prim.Native.Nat.{ℕ}
 use lib.Dec.{ltb}
-use lib.ListN.{length}
+use lib.ListN.{length, replicate}
 use Rattle.std.specs.declared.option.Option.{Option}
 use Rattle.std.specs.declared.option.Option.the-variants.{Some, None}
 use Rattle.std.specs.declared.result.Result.{Result}
@@ -40,3 +40,18 @@ played room session memory =
     cond (ltb room 2048) (refused ListingShort memory)
     (cond (ltb 16384 (length session)) (refused SessionLong memory)
     (ended-by (load-all (fresh memory) session)))
+
+-- the same with the line of the fault for a session that is too long as well
+abbrev pub listed : ℕ → List ℕ → List ℕ → Played
+listed room session memory =
+    cond (ltb room 2048) (refused ListingShort memory)
+    (cond (ltb 16384 (length session)) (ending (fresh memory) (Err SessionLong))
+    (ended-by (load-all (fresh memory) session)))
+
+-- the memory that the program plays on: a zero byte for each address
+unfoldable pub blank : List ℕ
+blank = replicate 65536 0
+
+-- what the program prints of a session, with room for any listing
+abbrev pub printed : List ℕ → List ℕ
+printed session = listed 2048 session blank .text

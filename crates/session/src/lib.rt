@@ -3,4 +3,5 @@ pub mod fault;
 mod listing;
 mod load;
 pub mod play;
+pub mod printout;
 mod sheet;

@@ -4,7 +4,7 @@ ghost use Prim.Native.Nat.{ℕ, _≤_};
 ghost use lib.ListN.{length};
 ghost use Rattle.std.specs.Of.Vec.{vec-items};
 ghost use Rattle.session.specs.Load.{view};
-ghost use Rattle.session.specs.Play.{played, ending};
+ghost use Rattle.session.specs.Play.{played, ending, listed};
 ghost use Rattle.session.specs.Text.{Puts};
 use crate::fault::SessionFault;
 use crate::load::Loader;
@@ -61,4 +61,16 @@ fn list(loader: Loader, answer: Result<(), SessionFault>, listing: &mut [u8]) ->
             Outcome { memory, written, fault: Some(fault) }
         }
     }
+}
+
+/// Plays a session as `play` does, and writes the line of the fault for a session that is too long as well.
+pub fn play_listed(session: &[u8], memory: Vec<u8>, listing: &mut [u8]) -> Outcome
+    ensures fault { λ r. ⌜ r .fault ≡ listed (length (now (listing .entry))) (now (session .entry)) (vec-items memory) .fault ⌝ }
+    ensures memory { λ r. ⌜ vec-items (r .memory) ≡ listed (length (now (listing .entry))) (now (session .entry)) (vec-items memory) .memory ⌝ }
+    ensures listing { λ r. ⌜ Puts (now (listing .entry)) 0 (listed (length (now (listing .entry))) (now (session .entry)) (vec-items memory) .text) (now (listing .exit)) (r .written) ⌝ }
+{
+    if listing.len() >= ROOM && session.len() > LONGEST {
+        return list(Loader::new(memory), Err(SessionFault::SessionLong), listing);
+    }
+    play(session, memory, listing)
 }
