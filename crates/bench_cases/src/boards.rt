@@ -8,7 +8,12 @@ use std::alloc::Global;
 use std::test::*;
 
 /// A flat board over so many bytes 11H, fixed below F, with 22H written to an address: what is read there, and the byte of the memory given back.
-fn written(heap: Global, length: usize, fixed_below: u32, address: u16) -> Result<(u8, Option<u8>), Fail> {
+fn written(
+    heap: Global,
+    length: usize,
+    fixed_below: u32,
+    address: u16,
+) -> Result<(u8, Option<u8>), Fail> {
     let mut board = FlatBoard::new(vec![in heap; 0x11; length]?, fixed_below);
     board.write(address, 0x22);
     let read = board.read(address);

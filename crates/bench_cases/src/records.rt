@@ -14,14 +14,44 @@ fn bytes_of(record: Record<'static>, room: usize) -> Result<[u8; 8], RecordFault
 
 #[test]
 fn each_kind_has_its_bytes() -> Result<(), Fail> {
-    let cell = Record::Cell { address: 0x1234, byte: 0x56 };
-    check_eq(bytes_of(cell, 8)?, [1, 0x34, 0x12, 0x56, 0xaa, 0xaa, 0xaa, 0xaa])?;
-    check_eq(bytes_of(Record::Fix { below: 0x1000 }, 8)?, [3, 0x00, 0x10, 0xaa, 0xaa, 0xaa, 0xaa, 0xaa])?;
-    check_eq(bytes_of(Record::Set { register: 19, value: 3 }, 8)?, [4, 19, 3, 0, 0xaa, 0xaa, 0xaa, 0xaa])?;
-    check_eq(bytes_of(Record::Grant { states: 10 }, 8)?, [5, 10, 0, 0, 0, 0xaa, 0xaa, 0xaa])?;
-    check_eq(bytes_of(Record::Signal { line: 10 }, 8)?, [6, 10, 0xaa, 0xaa, 0xaa, 0xaa, 0xaa, 0xaa])?;
-    check_eq(bytes_of(Record::Reset, 1)?, [7, 0xaa, 0xaa, 0xaa, 0xaa, 0xaa, 0xaa, 0xaa])?;
-    check_eq(bytes_of(Record::End, 1)?, [8, 0xaa, 0xaa, 0xaa, 0xaa, 0xaa, 0xaa, 0xaa])
+    let cell = Record::Cell {
+        address: 0x1234,
+        byte: 0x56,
+    };
+    check_eq(
+        bytes_of(cell, 8)?,
+        [1, 0x34, 0x12, 0x56, 0xaa, 0xaa, 0xaa, 0xaa],
+    )?;
+    check_eq(
+        bytes_of(Record::Fix { below: 0x1000 }, 8)?,
+        [3, 0x00, 0x10, 0xaa, 0xaa, 0xaa, 0xaa, 0xaa],
+    )?;
+    check_eq(
+        bytes_of(
+            Record::Set {
+                register: 19,
+                value: 3,
+            },
+            8,
+        )?,
+        [4, 19, 3, 0, 0xaa, 0xaa, 0xaa, 0xaa],
+    )?;
+    check_eq(
+        bytes_of(Record::Grant { states: 10 }, 8)?,
+        [5, 10, 0, 0, 0, 0xaa, 0xaa, 0xaa],
+    )?;
+    check_eq(
+        bytes_of(Record::Signal { line: 10 }, 8)?,
+        [6, 10, 0xaa, 0xaa, 0xaa, 0xaa, 0xaa, 0xaa],
+    )?;
+    check_eq(
+        bytes_of(Record::Reset, 1)?,
+        [7, 0xaa, 0xaa, 0xaa, 0xaa, 0xaa, 0xaa, 0xaa],
+    )?;
+    check_eq(
+        bytes_of(Record::End, 1)?,
+        [8, 0xaa, 0xaa, 0xaa, 0xaa, 0xaa, 0xaa, 0xaa],
+    )
 }
 
 /// Writes page 1 into a buffer; its length.
@@ -33,11 +63,17 @@ fn page_written(bytes: &[u8], buffer: &mut [u8]) -> Result<usize, RecordFault> {
 #[test]
 fn a_writer_without_room_refuses() -> Result<(), Fail> {
     check_eq(bytes_of(Record::End, 0), Err(RecordFault::NoRoom))?;
-    check_eq(bytes_of(Record::Grant { states: 4294967295 }, 4), Err(RecordFault::NoRoom))?;
+    check_eq(
+        bytes_of(Record::Grant { states: 4294967295 }, 4),
+        Err(RecordFault::NoRoom),
+    )?;
     let mut buffer = [0xaa; 300];
     let bytes = [0x55; 257];
     check_eq(page_written(&bytes, &mut buffer), Err(RecordFault::NoRoom))?;
-    check_eq(page_written(&bytes[0..255], &mut buffer), Err(RecordFault::NoRoom))?;
+    check_eq(
+        page_written(&bytes[0..255], &mut buffer),
+        Err(RecordFault::NoRoom),
+    )?;
     check_eq((buffer[0], buffer[299]), (0xaa, 0xaa))?;
     check_eq(RecordFault::NoRoom.number(), 13)
 }
@@ -45,11 +81,17 @@ fn a_writer_without_room_refuses() -> Result<(), Fail> {
 #[test]
 fn a_page_has_its_bytes() -> Result<(), Fail> {
     let mut short = [0xaa; 257];
-    check_eq(page_written(&[0x55; 256], &mut short), Err(RecordFault::NoRoom))?;
+    check_eq(
+        page_written(&[0x55; 256], &mut short),
+        Err(RecordFault::NoRoom),
+    )?;
     check_eq((short[0], short[256]), (0xaa, 0xaa))?;
     let mut buffer = [0xaa; 300];
     check_eq(page_written(&[0x55; 256], &mut buffer), Ok(258))?;
-    check_eq((buffer[0], buffer[1], buffer[2], buffer[257], buffer[258]), (2, 1, 0x55, 0x55, 0xaa))
+    check_eq(
+        (buffer[0], buffer[1], buffer[2], buffer[257], buffer[258]),
+        (2, 1, 0x55, 0x55, 0xaa),
+    )
 }
 
 /// A page behind an END: what stands where.

@@ -16,7 +16,10 @@ fn every_register_takes_its_largest_value() -> Result<(), Fail> {
             _ => 65535,
         };
         check_eq(core.set(register, largest), Ok(()))?;
-        check_eq(core.set(register, largest + 1), Err(RegisterFault::ValueOutOfRange))?;
+        check_eq(
+            core.set(register, largest + 1),
+            Err(RegisterFault::ValueOutOfRange),
+        )?;
         check_eq(core.get(register)?, largest as u16)?;
     }
     Ok(())

@@ -13,12 +13,37 @@ fn prints(heap: Global, session: &[u8], text: &[u8]) -> Result<(), Fail> {
 #[test]
 fn sheets(rt: LibcRuntime) -> Result<(), Fail> {
     let heap = rt.alloc();
-    let bench = b"PC 0000 SP 0000 EA 0000 PSW 00\nV 00 A 00 B 00 C 00 D 00 E 00 H 00 L 00\nM 0 0 0 0\n";
-    let third = b"PC 0003 SP 0000 EA 0000 PSW 00\nV 00 A 00 B 00 C 00 D 00 E 00 H 00 L 00\nM 0 0 0 0\n";
-    let mixed = b"PC 0000 SP ABCD EA 0000 PSW 7D\nV 00 A 00 B 00 C 00 D 00 E 00 H 00 L FA\nM 0 0 0 0\n";
+    let bench =
+        b"PC 0000 SP 0000 EA 0000 PSW 00\nV 00 A 00 B 00 C 00 D 00 E 00 H 00 L 00\nM 0 0 0 0\n";
+    let third =
+        b"PC 0003 SP 0000 EA 0000 PSW 00\nV 00 A 00 B 00 C 00 D 00 E 00 H 00 L 00\nM 0 0 0 0\n";
+    let mixed =
+        b"PC 0000 SP ABCD EA 0000 PSW 7D\nV 00 A 00 B 00 C 00 D 00 E 00 H 00 L FA\nM 0 0 0 0\n";
     prints(heap, &[8], bench)?;
     prints(heap, &[4, 19, 3, 0, 8], third)?;
-    prints(heap, &[4, 18, 0xcd, 0xab, 4, 20, 0x7d, 0, 4, 7, 0xfa, 0, 4, 15, 1, 0, 8], mixed)
+    prints(
+        heap,
+        &[
+            4,
+            18,
+            0xcd,
+            0xab,
+            4,
+            20,
+            0x7d,
+            0,
+            4,
+            7,
+            0xfa,
+            0,
+            4,
+            15,
+            1,
+            0,
+            8,
+        ],
+        mixed,
+    )
 }
 
 #[test]
@@ -48,7 +73,8 @@ fn kinds_that_do_not_play_yet(rt: LibcRuntime) -> Result<(), Fail> {
 #[test]
 fn the_longest_session(rt: LibcRuntime) -> Result<(), Fail> {
     let heap = rt.alloc();
-    let sheet = b"PC 0000 SP 0000 EA 0000 PSW 00\nV 00 A 00 B 00 C 00 D 00 E 00 H 00 L 00\nM 0 0 0 0\n";
+    let sheet =
+        b"PC 0000 SP 0000 EA 0000 PSW 00\nV 00 A 00 B 00 C 00 D 00 E 00 H 00 L 00\nM 0 0 0 0\n";
     let mut session = vec![in heap; 3; 16384]?;
     check(session.len() == 16384)?;
     session[16383] = 8;
@@ -60,7 +86,11 @@ fn the_longest_session(rt: LibcRuntime) -> Result<(), Fail> {
 /// Plays a session on so many bytes 11H with so much room for the listing: the outcome and the first byte of the listing.
 fn played(heap: Global, session: &[u8], length: usize, room: usize) -> Result<(Outcome, u8), Fail> {
     let mut listing = [0xee; 2048];
-    let outcome = play(session, vec![in heap; 0x11; length]?, &mut listing[0..room.min(2048)]);
+    let outcome = play(
+        session,
+        vec![in heap; 0x11; length]?,
+        &mut listing[0..room.min(2048)],
+    );
     Ok((outcome, listing[0]))
 }
 
@@ -78,11 +108,35 @@ fn refusals_before_anything_is_read(rt: LibcRuntime) -> Result<(), Fail> {
 
 #[test]
 fn a_fault_keeps_what_was_loaded_before(rt: LibcRuntime) -> Result<(), Fail> {
-    let session = [1, 5, 0, 0x22, 3, 0, 1, 1, 6, 0, 0x33, 4, 21, 0, 0, 1, 7, 0, 0x44, 8];
+    let session = [
+        1,
+        5,
+        0,
+        0x22,
+        3,
+        0,
+        1,
+        1,
+        6,
+        0,
+        0x33,
+        4,
+        21,
+        0,
+        0,
+        1,
+        7,
+        0,
+        0x44,
+        8,
+    ];
     let (outcome, first) = played(rt.alloc(), &session, 16, 2048)?;
     check_eq((outcome.written, first), (9, b'F'))?;
     let fault = outcome.fault.ok_or("played")?;
-    check_eq((fault.number(), fault.place().number, fault.place().offset), (1, 3, 11))?;
+    check_eq(
+        (fault.number(), fault.place().number, fault.place().offset),
+        (1, 3, 11),
+    )?;
     check_eq(outcome.memory.get(5).copied(), Some(0x22))?;
     check_eq(outcome.memory.get(6).copied(), Some(0x33))?;
     check_eq(outcome.memory.get(7).copied(), Some(0x11))

@@ -3,8 +3,8 @@ ghost use mathlib.Core.Path.{_≡_};
 ghost use Rattle.std.specs.Of.Vec.{vec-items};
 ghost use Rattle.board.specs.Flat.{flatCells, flatRest, flatMemory, FlatRest};
 ghost use Rattle.board.specs.Of.{flat-cells, flat-rest};
-use crate::Board;
 use crate::ABSENT;
+use crate::Board;
 
 /// A memory that begins at address 0. Addresses that it does not reach hold FFH and are fixed; bytes past the last address are unused.
 #[derive(Drop)]
@@ -19,14 +19,18 @@ impl FlatBoard {
         ensures cells { λ r. ⌜ flat-cells r ≡ flatCells (vec-items memory) «fixed_below» ⌝ }
         ensures rest { λ r. ⌜ flat-rest r ≡ flatRest (vec-items memory) «fixed_below» ⌝ }
     {
-        FlatBoard { memory, fixed_below }
+        FlatBoard {
+            memory,
+            fixed_below,
+        }
     }
 
     /// The memory back, with its unused bytes.
     pub fn into_memory(self) -> Vec<u8>
         ensures { λ r. ⌜ vec-items r ≡ flatMemory (flat-cells self) (flat-rest self) ⌝ }
     {
-        self.memory
+        let FlatBoard { memory, .. } = self;
+        memory
     }
 }
 

@@ -1,6 +1,7 @@
 // Boards: the memory that a core reads and writes.
 ghost use mathlib.Core.Path.{_≡_};
 ghost use Rattle.board.specs.Cells.{Cells, written, Bounded};
+
 pub mod flat;
 pub mod mask_rom;
 

@@ -6,8 +6,8 @@ ghost use lib.ListN.{replicate};
 ghost use Rattle.std.specs.Of.Vec.{vec-items};
 ghost use Rattle.board.specs.MaskRom.{maskRomCells};
 ghost use Rattle.board.specs.Of.{mask-rom-cells, mask-rom-image};
-use crate::Board;
 use crate::ABSENT;
+use crate::Board;
 
 /// How much of a ROM image the part can hold.
 const ROM_SIZE: usize = 0x1000;
@@ -35,7 +35,8 @@ impl MaskRomBoard {
     pub fn into_rom(self) -> Vec<u8>
         ensures { λ r. ⌜ vec-items r ≡ mask-rom-image self ⌝ }
     {
-        self.rom
+        let MaskRomBoard { rom, .. } = self;
+        rom
     }
 }
 

@@ -29,9 +29,9 @@ Bytes bs = (i : ℕ) → getD bs i 0 < 256
 written-read : (r : Said) (rest : List ℕ) → Fits r → whole r ≡ true → reading (wire r ++ rest) ≡ Ok (r, length (wire r))
 written-read (cell a b) rest f w = grind (arith, tells)
 written-read (page p bs) rest f w =
-  let l = eqb-true (length bs) 256 w in
-  let h = length-append bs rest in
-  let t = take-at bs rest 256 l in grind (arith, tells)
+    let l = eqb-true (length bs) 256 w in
+    let h = length-append bs rest in
+    let t = take-at bs rest 256 l in grind (arith, tells)
 written-read (fix x) rest f w = grind (arith, tells)
 written-read (set r v) rest f w = grind (arith, tells)
 written-read (grant n) rest f w = grind (arith, tells)
@@ -43,11 +43,11 @@ written-read end rest f w = grind (arith, tells)
 pub rereads : (r : Said) (buffer : List ℕ) → Fits r → reading (write-over r buffer) ≡ reread (write-answer r buffer) r buffer
 rereads r buffer f = chosen (whole r) (ltb (length buffer) (length (wire r))) (wire r) (written-read r (drop (length (wire r)) buffer) f)
   where
-  chosen : (w l : Bool) (ws : List ℕ) → (w ≡ true → reading (ws ++ drop (length ws) buffer) ≡ Ok (r, length ws))
-    → reading (cond w (cond l buffer (ws ++ drop (length ws) buffer)) buffer) ≡ reread (cond w (cond l (Err NoRoom) (Ok (length ws))) (Err NoRoom)) r buffer
-  chosen true true ws h = refl
-  chosen true false ws h = h refl
-  chosen false l ws h = refl
+    chosen : (w l : Bool) (ws : List ℕ) → (w ≡ true → reading (ws ++ drop (length ws) buffer) ≡ Ok (r, length ws))
+        → reading (cond w (cond l buffer (ws ++ drop (length ws) buffer)) buffer) ≡ reread (cond w (cond l (Err NoRoom) (Ok (length ws))) (Err NoRoom)) r buffer
+    chosen true true ws h = refl
+    chosen true false ws h = h refl
+    chosen false l ws h = refl
 
 -- a number's two bytes, and its four
 two : (x y : ℕ) → x < 256 → y < 256 → ((x + 256 * (y + 256 * 0)) % 256 ≡ x) × ((x + 256 * (y + 256 * 0)) / 256 ≡ y)
@@ -116,26 +116,26 @@ in-body : (kind : Kind) (bs : List ℕ) (cut : Bool) (r : Said) (n : ℕ) → By
     → cond {A = Result (Said × ℕ) RecordFault} cut (Err CutShort) (Ok (meant kind bs, 1 + body-length kind)) ≡ Ok (r, n) → Read (code kind ∷ bs) r n
 in-body kind bs true r n b l e = let z : _≡_ {A = ℕ} 0 1 = cc in absurd (omega arith)
 in-body kind bs false r n b l e =
-  let q : _≡_ {A = Said × ℕ} (meant kind bs, 1 + body-length kind) (r, n) = cc in
-  let m : meant kind bs ≡ r = ap (λ x. x .0) q in
-  let j : 1 + body-length kind ≡ n = ap (λ x. x .1) q in
-  let h = ltb-false (length bs) (body-length kind) l in
-  let w = body-again kind bs h b in
-  let t : take (1 + body-length kind) (code kind ∷ bs) ≡ code kind ∷ take (body-length kind) bs = rw one-add in
-  let v : wire r ≡ code kind ∷ take (body-length kind) bs = sym (ap wire m) ∙ w .0 in
-  record {
-    some = omega arith;
-    inside = omega arith;
-    same = v ∙ sym t ∙ ap (λ k. take k (code kind ∷ bs)) j;
-    size = omega (arith, ap length v, length-take-le (body-length kind) bs h);
-    is-whole = ap whole (sym m) ∙ w .1;
-  }
+    let q : _≡_ {A = Said × ℕ} (meant kind bs, 1 + body-length kind) (r, n) = cc in
+    let m : meant kind bs ≡ r = ap (λ x. x .0) q in
+    let j : 1 + body-length kind ≡ n = ap (λ x. x .1) q in
+    let h = ltb-false (length bs) (body-length kind) l in
+    let w = body-again kind bs h b in
+    let t : take (1 + body-length kind) (code kind ∷ bs) ≡ code kind ∷ take (body-length kind) bs = rw one-add in
+    let v : wire r ≡ code kind ∷ take (body-length kind) bs = sym (ap wire m) ∙ w .0 in
+    record {
+      some = omega arith;
+      inside = omega arith;
+      same = v ∙ sym t ∙ ap (λ k. take k (code kind ∷ bs)) j;
+      size = omega (arith, ap length v, length-take-le (body-length kind) bs h);
+      is-whole = ap whole (sym m) ∙ w .1;
+    }
 
 of-kind : (byte : ℕ) (bs : List ℕ) (o : Option Kind) (r : Said) (n : ℕ) → Bytes bs → kind-of byte ≡ o → reading-as o bs ≡ Ok (r, n) → Read (byte ∷ bs) r n
 of-kind byte bs None r n b k e = let z : _≡_ {A = ℕ} 0 1 = cc in absurd (omega arith)
 of-kind byte bs (Some kind) r n b k e =
-  let P : ℕ → Type 0 = λ x. Read (x ∷ bs) r n in
-  subst P (kind-code byte kind k) (in-body kind bs (ltb (length bs) (body-length kind)) r n b refl e)
+    let P : ℕ → Type 0 = λ x. Read (x ∷ bs) r n in
+    subst P (kind-code byte kind k) (in-body kind bs (ltb (length bs) (body-length kind)) r n b refl e)
 
 pub reads : (bytes : List ℕ) (r : Said) (n : ℕ) → Bytes bytes → reading bytes ≡ Ok (r, n) → Read bytes r n
 reads [] r n b e = let z : _≡_ {A = ℕ} 0 1 = cc in absurd (omega arith)
@@ -144,22 +144,23 @@ reads (byte ∷ bs) r n b e = of-kind byte bs (kind-of byte) r n (λ i. b (suc i
 -- a record with the bytes it was read from is written as these
 pub rewrites : (bytes : List ℕ) (r : Said) (n : ℕ) → Read bytes r n → Rewrites bytes r n
 rewrites bytes r n p buffer =
-  let w : write-answer r buffer ≡ cond (ltb (length buffer) n) (Err NoRoom) (Ok n) = chosen-answer (whole r) (p .is-whole) in
-  (w, chosen-over (whole r) (p .is-whole))
+    let w : write-answer r buffer ≡ cond (ltb (length buffer) n) (Err NoRoom) (Ok n) = chosen-answer (whole r) (p .is-whole) in
+    (w, chosen-over (whole r) (p .is-whole))
   where
-  chosen-answer : (w : Bool) → w ≡ true
-    → cond {A = Result ℕ RecordFault} w (cond (ltb (length buffer) (length (wire r))) (Err NoRoom) (Ok (length (wire r)))) (Err NoRoom) ≡ cond (ltb (length buffer) n) (Err NoRoom) (Ok n)
-  chosen-answer true e = ap (λ k. cond {A = Result ℕ RecordFault} (ltb (length buffer) k) (Err NoRoom) (Ok k)) (sym (p .size))
-  chosen-answer false e = let z : _≡_ {A = ℕ} 0 1 = cc in absurd (omega arith)
-  chosen-over : (w : Bool) → w ≡ true
-    → cond w (cond (ltb (length buffer) (length (wire r))) buffer (wire r ++ drop (length (wire r)) buffer)) buffer ≡ cond (ltb (length buffer) n) buffer (take n bytes ++ drop n buffer)
-  chosen-over true e =
-    ap (λ ws. cond (ltb (length buffer) (length (wire r))) buffer (ws ++ drop (length (wire r)) buffer)) (p .same)
-    ∙ ap (λ k. cond (ltb (length buffer) k) buffer (take n bytes ++ drop k buffer)) (sym (p .size))
-  chosen-over false e = let z : _≡_ {A = ℕ} 0 1 = cc in absurd (omega arith)
+    chosen-answer : (w : Bool) → w ≡ true
+        → cond {A = Result ℕ RecordFault} w (cond (ltb (length buffer) (length (wire r))) (Err NoRoom) (Ok (length (wire r)))) (Err NoRoom) ≡ cond (ltb (length buffer) n) (Err NoRoom) (Ok n)
+    chosen-answer true e = ap (λ k. cond {A = Result ℕ RecordFault} (ltb (length buffer) k) (Err NoRoom) (Ok k)) (sym (p .size))
+    chosen-answer false e = let z : _≡_ {A = ℕ} 0 1 = cc in absurd (omega arith)
+
+    chosen-over : (w : Bool) → w ≡ true
+        → cond w (cond (ltb (length buffer) (length (wire r))) buffer (wire r ++ drop (length (wire r)) buffer)) buffer ≡ cond (ltb (length buffer) n) buffer (take n bytes ++ drop n buffer)
+    chosen-over true e =
+        ap (λ ws. cond (ltb (length buffer) (length (wire r))) buffer (ws ++ drop (length (wire r)) buffer)) (p .same)
+        ∙ ap (λ k. cond (ltb (length buffer) k) buffer (take n bytes ++ drop k buffer)) (sym (p .size))
+    chosen-over false e = let z : _≡_ {A = ℕ} 0 1 = cc in absurd (omega arith)
 
 -- the same of a part of some bytes
 pub reads-at : (bytes part : List ℕ) (offset : ℕ) (r : Said) (n : ℕ) → Bytes bytes → part ≡ drop offset bytes → Ok (r, n) ≡ reading part → Read (drop offset bytes) r n
 reads-at bytes part offset r n b e h =
-  let P : ℕ → Type 0 = λ x. x < 256 in
-  reads (drop offset bytes) r n (λ i. subst P (sym (getD-drop offset bytes i 0)) (b (offset + i))) (sym (h ∙ ap reading e))
+    let P : ℕ → Type 0 = λ x. x < 256 in
+    reads (drop offset bytes) r n (λ i. subst P (sym (getD-drop offset bytes i 0)) (b (offset + i))) (sym (h ∙ ap reading e))

@@ -25,7 +25,12 @@ impl<'a> Record<'a> {
         let (_, rest) = session.split_at(offset);
         let (value, length) = read_first(rest)?;
         let page = page_at(&value, offset);
-        Ok(Found { value, body: offset + 1, page, length })
+        Ok(Found {
+            value,
+            body: offset + 1,
+            page,
+            length,
+        })
     }
 }
 
@@ -75,7 +80,13 @@ fn read_cell(body: &[u8]) -> Result<(Record<'_>, usize), RecordFault>
         return Err(RecordFault::CutShort);
     };
     let address = u16::from_le_bytes([*low, *high]);
-    Ok((Record::Cell { address, byte: *byte }, 4))
+    Ok((
+        Record::Cell {
+            address,
+            byte: *byte,
+        },
+        4,
+    ))
 }
 
 fn read_page(body: &[u8]) -> Result<(Record<'_>, usize), RecordFault>
@@ -87,7 +98,13 @@ fn read_page(body: &[u8]) -> Result<(Record<'_>, usize), RecordFault>
     if bytes.len() < 256 {
         return Err(RecordFault::CutShort);
     }
-    Ok((Record::Page { page: *page, bytes: &bytes[0..256] }, 258))
+    Ok((
+        Record::Page {
+            page: *page,
+            bytes: &bytes[0..256],
+        },
+        258,
+    ))
 }
 
 fn read_fix(body: &[u8]) -> Result<(Record<'_>, usize), RecordFault>
@@ -96,7 +113,12 @@ fn read_fix(body: &[u8]) -> Result<(Record<'_>, usize), RecordFault>
     let [low, high, ..] = body else {
         return Err(RecordFault::CutShort);
     };
-    Ok((Record::Fix { below: u16::from_le_bytes([*low, *high]) }, 3))
+    Ok((
+        Record::Fix {
+            below: u16::from_le_bytes([*low, *high]),
+        },
+        3,
+    ))
 }
 
 fn read_set(body: &[u8]) -> Result<(Record<'_>, usize), RecordFault>
@@ -106,7 +128,13 @@ fn read_set(body: &[u8]) -> Result<(Record<'_>, usize), RecordFault>
         return Err(RecordFault::CutShort);
     };
     let value = u16::from_le_bytes([*low, *high]);
-    Ok((Record::Set { register: *register, value }, 4))
+    Ok((
+        Record::Set {
+            register: *register,
+            value,
+        },
+        4,
+    ))
 }
 
 fn read_grant(body: &[u8]) -> Result<(Record<'_>, usize), RecordFault>
@@ -115,7 +143,12 @@ fn read_grant(body: &[u8]) -> Result<(Record<'_>, usize), RecordFault>
     let [a, b, c, d, ..] = body else {
         return Err(RecordFault::CutShort);
     };
-    Ok((Record::Grant { states: u32::from_le_bytes([*a, *b, *c, *d]) }, 5))
+    Ok((
+        Record::Grant {
+            states: u32::from_le_bytes([*a, *b, *c, *d]),
+        },
+        5,
+    ))
 }
 
 fn read_signal(body: &[u8]) -> Result<(Record<'_>, usize), RecordFault>

@@ -22,7 +22,11 @@ zero-registers = record { main = zero-bank; alternate = zero-bank; ea = 0; «ea_
 abbrev pub core-with : Core → Registers → Core
 core-with core registers = record {
   registers = registers;
-  mkl = core .mkl; mkh = core .mkh; interrupts = core .interrupts; halted = core .halted; «after_ei» = core .«after_ei»;
+  mkl = core .mkl;
+  mkh = core .mkh;
+  interrupts = core .interrupts;
+  halted = core .halted;
+  «after_ei» = core .«after_ei»;
 }
 
 -- all registers zero, every line masked, interrupts disabled, not halted

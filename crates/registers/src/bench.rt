@@ -9,9 +9,25 @@ use crate::file::RegisterName;
 use crate::file::Registers;
 use crate::flags::Flags;
 
-const ZERO_BANK: Bank = Bank { v: 0, a: 0, b: 0, c: 0, d: 0, e: 0, h: 0, l: 0 };
+const ZERO_BANK: Bank = Bank {
+    v: 0,
+    a: 0,
+    b: 0,
+    c: 0,
+    d: 0,
+    e: 0,
+    h: 0,
+    l: 0,
+};
 
-const NO_FLAGS: Flags = Flags { zero: false, skip: false, half: false, l1: false, l0: false, carry: false };
+const NO_FLAGS: Flags = Flags {
+    zero: false,
+    skip: false,
+    half: false,
+    l1: false,
+    l0: false,
+    carry: false,
+};
 
 /// The registers, the two mask registers and the modes of a core.
 #[derive(Clone, Copy)]
@@ -40,7 +56,14 @@ impl Core {
             pc: 0,
             flags: NO_FLAGS,
         };
-        Core { registers, mkl: 0xff, mkh: 0xff, interrupts: false, halted: false, after_ei: false }
+        Core {
+            registers,
+            mkl: 0xff,
+            mkh: 0xff,
+            interrupts: false,
+            halted: false,
+            after_ei: false,
+        }
     }
 }
 
@@ -83,6 +106,7 @@ impl BenchCore {
     pub fn into_core(self) -> Core
         ensures { λ r. ⌜ r ≡ self .core ⌝ }
     {
-        self.core
+        let BenchCore { core } = self;
+        core
     }
 }

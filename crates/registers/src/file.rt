@@ -100,14 +100,22 @@ impl Registers {
 fn byte(value: u32) -> Result<u8, RegisterFault>
     ensures { λ r. ⌜ r ≡ within 256 value ⌝ }
 {
-    if value < 256 { Ok(value as u8) } else { Err(RegisterFault::ValueOutOfRange) }
+    if value < 256 {
+        Ok(value as u8)
+    } else {
+        Err(RegisterFault::ValueOutOfRange)
+    }
 }
 
 /// A value of 16 bits.
 fn word(value: u32) -> Result<u16, RegisterFault>
     ensures { λ r. ⌜ r ≡ within 65536 value ⌝ }
 {
-    if value < 65536 { Ok(value as u16) } else { Err(RegisterFault::ValueOutOfRange) }
+    if value < 65536 {
+        Ok(value as u16)
+    } else {
+        Err(RegisterFault::ValueOutOfRange)
+    }
 }
 
 /// A value of the PSW's six bits.

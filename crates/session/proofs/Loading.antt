@@ -55,8 +55,8 @@ module _ (session : List ℕ) (s : Loaded) (n o : ℕ) (fewer : n ≤ o) where
 pub stored-more : (m : List ℕ) (a i : ℕ) (bs : List ℕ) → i < length bs → stored (set m (a + i) (getD bs i 0)) (a + (i + 1)) (drop (i + 1) bs) ≡ stored m (a + i) (drop i bs)
 unfolding stored
 stored-more m a i bs h =
-  let e : a + (i + 1) ≡ a + i + 1 = omega arith in
-  ap (λ n. stored (set m (a + i) (getD bs i 0)) n (drop (i + 1) bs)) e ∙ sym (at-drop-more (stored m (a + i)) bs i 0 h)
+    let e : a + (i + 1) ≡ a + i + 1 = omega arith in
+    ap (λ n. stored (set m (a + i) (getD bs i 0)) n (drop (i + 1) bs)) e ∙ sym (at-drop-more (stored m (a + i)) bs i 0 h)
 
 pub stored-all : (m : List ℕ) (a i : ℕ) (bs : List ℕ) → length bs ≤ i → stored m a (drop i bs) ≡ m
 unfolding stored

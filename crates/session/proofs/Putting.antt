@@ -19,34 +19,34 @@ over-length old at t h = let l : at ≤ length old = omega arith in simp (length
 pub copied : (old : List ℕ) (at : ℕ) (t part : List ℕ) → at + length t ≤ length old → part ≡ t → Puts old at t (putMid at (at + length t - at) old part) (at + length t)
 unfolding over
 copied old at t part h e =
-  let n : at + length t - at ≡ length t = omega arith in
-  let a : putMid at (at + length t - at) old part ≡ over old at t = simp (e, n, drop-drop, append-assoc) in
-  record { after = a; moves = refl; inside = h; size = ap length a ∙ over-length old at t h }
+    let n : at + length t - at ≡ length t = omega arith in
+    let a : putMid at (at + length t - at) old part ≡ over old at t = simp (e, n, drop-drop, append-assoc) in
+    record { after = a; moves = refl; inside = h; size = ap length a ∙ over-length old at t h }
 
 over-over : (old : List ℕ) (at : ℕ) (t u : List ℕ) → at ≤ length old → over (over old at t) (at + length t) u ≡ over old at (t ++ u)
 unfolding over
 over-over old at t u h =
-  let n : length (take at old ++ t) ≡ at + length t = length-append (take at old) t ∙ ap (λ x. x + length t) (length-take-le at old h) in
-  let rest = drop (at + length t) old in
-  let front = take-at (take at old ++ t) rest (at + length t) n in
-  let back : drop (at + length t + length u) (take at old ++ t ++ rest) ≡ drop (at + length (t ++ u)) old =
+    let n : length (take at old ++ t) ≡ at + length t = length-append (take at old) t ∙ ap (λ x. x + length t) (length-take-le at old h) in
+    let rest = drop (at + length t) old in
+    let front = take-at (take at old ++ t) rest (at + length t) n in
+    let back : drop (at + length t + length u) (take at old ++ t ++ rest) ≡ drop (at + length (t ++ u)) old =
     sym (drop-drop (length u) (at + length t) (take at old ++ t ++ rest))
     ∙ ap (drop (length u)) (drop-at (take at old ++ t) rest (at + length t) n)
     ∙ drop-drop (length u) (at + length t) old
     ∙ ap (λ x. drop x old) (omega (arith, length-append t u)) in
-  ap (λ x. x ++ u ++ drop (at + length t + length u) (take at old ++ t ++ rest)) front
-  ∙ ap (λ x. take at old ++ t ++ u ++ x) back
-  ∙ ap (λ x. x ++ drop (at + length (t ++ u)) old) (append-assoc (take at old) t u)
+    ap (λ x. x ++ u ++ drop (at + length t + length u) (take at old ++ t ++ rest)) front
+    ∙ ap (λ x. take at old ++ t ++ u ++ x) back
+    ∙ ap (λ x. x ++ drop (at + length (t ++ u)) old) (append-assoc (take at old) t u)
 
 joined : {old mid new : List ℕ} {at p q : ℕ} {t u : List ℕ} → Puts old at t mid p → Puts mid p u new q → Puts old at (t ++ u) new q
 joined {old} {mid} {new} {at} {p} {q} {t} {u} a b =
-  let h : at + length t ≤ length old = omega (arith, a .moves, a .inside) in
-  let l = ap length (a .after) ∙ over-length old at t h in record {
-  after = b .after ∙ ap (λ m. over m p u) (a .after) ∙ ap (λ x. over (over old at t) x u) (a .moves) ∙ over-over old at t u (omega arith);
-  moves = omega (arith, a .moves, b .moves, length-append t u);
-  inside = omega (arith, b .inside, l);
-  size = b .size ∙ a .size;
-}
+    let h : at + length t ≤ length old = omega (arith, a .moves, a .inside) in
+    let l = ap length (a .after) ∙ over-length old at t h in record {
+      after = b .after ∙ ap (λ m. over m p u) (a .after) ∙ ap (λ x. over (over old at t) x u) (a .moves) ∙ over-over old at t u (omega arith);
+      moves = omega (arith, a .moves, b .moves, length-append t u);
+      inside = omega (arith, b .inside, l);
+      size = b .size ∙ a .size;
+    }
 
 infixl 5 _▸_
 pub _▸_ : {k l m : Listing} {t u : List ℕ} → Appends k t l → Appends l u m → Appends k (t ++ u) m

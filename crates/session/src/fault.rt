@@ -81,7 +81,10 @@ impl SessionFault {
             SessionFault::Register(_, place) => place,
             SessionFault::Broken(_, place) => place,
             SessionFault::OutOfPlace(place) => place,
-            SessionFault::ListingShort | SessionFault::SessionLong => Place { number: 0, offset: 0 },
+            SessionFault::ListingShort | SessionFault::SessionLong => Place {
+                number: 0,
+                offset: 0,
+            },
         }
     }
 }

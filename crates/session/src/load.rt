@@ -33,7 +33,12 @@ impl Loader {
     pub(crate) fn new(memory: Vec<u8>) -> Loader
         ensures { λ r. ⌜ view r ≡ fresh (vec-items memory) ⌝ }
     {
-        Loader { core: BenchCore::new(), fixed_below: 0, memory, ended: false }
+        Loader {
+            core: BenchCore::new(),
+            fixed_below: 0,
+            memory,
+            ended: false,
+        }
     }
 
     /// Plays a whole session.
@@ -78,10 +83,15 @@ impl Loader {
         ensures after { λ _. ⌜ view (now (self .exit)) ≡ left-by (load (said (now («record» .entry))) (view (now (self .entry)))) (view (now (self .entry))) ⌝ }
     {
         match record {
-            Record::Cell { address, byte } => store_byte(&mut self.memory, usize::from(*address), *byte),
+            Record::Cell { address, byte } => store_byte(
+                &mut self.memory,
+                usize::from(*address),
+                *byte,
+            ),
             Record::Page { page, bytes } => store_page(&mut self.memory, *page, bytes),
             Record::Fix { below } => self.fixed_below = *below,
-            Record::Set { register, value } => return self.core.set(u32::from(*register), u32::from(*value)),
+            Record::Set { register, value } => return self.core
+                .set(u32::from(*register), u32::from(*value)),
             Record::End => self.ended = true,
             Record::Grant { .. } | Record::Signal { .. } | Record::Reset => {}
         }

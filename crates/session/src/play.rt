@@ -32,10 +32,18 @@ pub fn play(session: &[u8], memory: Vec<u8>, listing: &mut [u8]) -> Outcome
     ensures listing { λ r. ⌜ Puts (now (listing .entry)) 0 (played (length (now (listing .entry))) (now (session .entry)) (vec-items memory) .text) (now (listing .exit)) (r .written) ⌝ }
 {
     if listing.len() < ROOM {
-        return Outcome { memory, written: 0, fault: Some(SessionFault::ListingShort) };
+        return Outcome {
+            memory,
+            written: 0,
+            fault: Some(SessionFault::ListingShort),
+        };
     }
     if session.len() > LONGEST {
-        return Outcome { memory, written: 0, fault: Some(SessionFault::SessionLong) };
+        return Outcome {
+            memory,
+            written: 0,
+            fault: Some(SessionFault::SessionLong),
+        };
     }
     let mut loader = Loader::new(memory);
     let answer = loader.load_all(session);
@@ -53,12 +61,20 @@ fn list(loader: Loader, answer: Result<(), SessionFault>, listing: &mut [u8]) ->
     match answer {
         Ok(()) => {
             let written = put_sheet(listing, &core.into_core().registers);
-            Outcome { memory, written, fault: None }
+            Outcome {
+                memory,
+                written,
+                fault: None,
+            }
         }
         Err(fault) => {
             let place = fault.place();
             let written = put_fault(listing, fault.number(), place.number, place.offset);
-            Outcome { memory, written, fault: Some(fault) }
+            Outcome {
+                memory,
+                written,
+                fault: Some(fault),
+            }
         }
     }
 }

@@ -17,5 +17,5 @@ page-read body h = grind (arith, tells)
 
 pub returns : need.returns
 returns c =
-  let h : 257 ≤ length (c .args .body .now) = omega (arith, simp (take-rest, length-drop) at (c .if-bytes-lt256 .left)) in
-  simp take-rest (page-read (c .args .body .now) h)
+    let h : 257 ≤ length (c .args .body .now) = omega (arith, simp (take-rest, length-drop) at (c .if-bytes-lt256 .left)) in
+    simp take-rest (page-read (c .args .body .now) h)

@@ -12,15 +12,15 @@ loop-i-holds c = rw add-zero
 
 pub loop-i-again : need.loop-i-again
 loop-i-again c =
-  let start = 256 * c .from-start .result in
-  let bytes = c .args .bytes .now in
-  ap (λ m. stored m (start + (c .loop-i .i + 1)) (drop (c .loop-i .i + 1) bytes)) (c .store-byte .ensures)
-  ∙ stored-more (vec-items (c .loop-i .memory)) start (c .loop-i .i) bytes (c .loop-i-test .taken)
-  ∙ c .loop-i .inv
+    let start = 256 * c .from-start .result in
+    let bytes = c .args .bytes .now in
+    ap (λ m. stored m (start + (c .loop-i .i + 1)) (drop (c .loop-i .i + 1) bytes)) (c .store-byte .ensures)
+    ∙ stored-more (vec-items (c .loop-i .memory)) start (c .loop-i .i) bytes (c .loop-i-test .taken)
+    ∙ c .loop-i .inv
 
 pub returns : need.returns
 returns c =
-  let start = 256 * c .from-start .result in
-  sym (stored-all (vec-items (c .loop-i .memory)) (start + c .loop-i .i) (c .loop-i .i) (c .args .bytes .now) (c .loop-i-test .left))
-  ∙ c .loop-i .inv
-  ∙ ap (λ page. stored (vec-items (c .args .memory .now)) (256 * page) (c .args .bytes .now)) (c .from-start .ensures)
+    let start = 256 * c .from-start .result in
+    sym (stored-all (vec-items (c .loop-i .memory)) (start + c .loop-i .i) (c .loop-i .i) (c .args .bytes .now) (c .loop-i-test .left))
+    ∙ c .loop-i .inv
+    ∙ ap (λ page. stored (vec-items (c .args .memory .now)) (256 * page) (c .args .bytes .now)) (c .from-start .ensures)

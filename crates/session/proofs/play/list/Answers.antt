@@ -7,9 +7,9 @@ use Rattle.session.proofs.play.list.Needs as need
 
 pub returns-in-Ok : need.returns-in-Ok
 returns-in-Ok c =
-  let all = sym (ap (ending (view (c .args .loader))) (c .in-Ok .is)) in
-  record {
-    fault = ap (λ p. p .fault) all;
-    memory = ap (λ p. p .memory) all;
-    listing = puts-text (ap (λ core. sheet (core .registers)) (c .into-core .ensures) ∙ ap (λ p. p .text) all) (c .put-sheet-written .ensures);
-  }
+    let all = sym (ap (ending (view (c .args .loader))) (c .in-Ok .is)) in
+    record {
+      fault = ap (λ p. p .fault) all;
+      memory = ap (λ p. p .memory) all;
+      listing = puts-text (ap (λ core. sheet (core .registers)) (c .into-core .ensures) ∙ ap (λ p. p .text) all) (c .put-sheet-written .ensures);
+    }

@@ -15,11 +15,11 @@ returns-then-session-gt-LONGEST c = search (needs, puts-none)
 
 pub returns : need.returns
 returns c =
-  let l = c .list .ensures in
-  let all = plays-as (length (c .args .listing .now)) (c .args .session .now) (vec-items (c .args .memory)) _ _ _
+    let l = c .list .ensures in
+    let all = plays-as (length (c .args .listing .now)) (c .args .session .now) (vec-items (c .args .memory)) _ _ _
     (omega arith) (omega arith) (c .new-loader .ensures) (c .load-all-answer .ensures .after) (c .load-all-answer .ensures .answer) in
-  record {
-    fault = l .fault ∙ ap (λ p. p .fault) all;
-    memory = l .memory ∙ ap (λ p. p .memory) all;
-    listing = puts-text (ap (λ p. p .text) all) (l .listing);
-  }
+    record {
+      fault = l .fault ∙ ap (λ p. p .fault) all;
+      memory = l .memory ∙ ap (λ p. p .memory) all;
+      listing = puts-text (ap (λ p. p .text) all) (l .listing);
+    }

@@ -15,8 +15,8 @@ is-blank = refl
 
 pub returns : need.returns
 returns c =
-  let p = c .play-listed-written .ensures .listing in
-  let m : vec-items (c .in-Continue-memory .memory) ≡ blank = c .in-Continue-memory .ensures tt .exact (λ y e. e) ∙ is-blank in
-  let whole : c .play-listed-written .result .written - 0 ≡ c .play-listed-written .result .written = omega arith in
-  let text = ap (λ n. take n (c .play-listed-written .last .listing)) whole ∙ front p ∙ ap (λ memory. listed 2048 (c .args .session .now) memory .text) m in
-  made-weaker (c .from-slice .result) _ _ (λ v h. h .0 ∙ text) (c .from-slice .ensures .made)
+    let p = c .play-listed-written .ensures .listing in
+    let m : vec-items (c .in-Continue-memory .memory) ≡ blank = c .in-Continue-memory .ensures tt .exact (λ y e. e) ∙ is-blank in
+    let whole : c .play-listed-written .result .written - 0 ≡ c .play-listed-written .result .written = omega arith in
+    let text = ap (λ n. take n (c .play-listed-written .last .listing)) whole ∙ front p ∙ ap (λ memory. listed 2048 (c .args .session .now) memory .text) m in
+    made-weaker (c .from-slice .result) _ _ (λ v h. h .0 ∙ text) (c .from-slice .ensures .made)

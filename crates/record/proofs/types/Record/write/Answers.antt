@@ -6,11 +6,11 @@ use Rattle.record.proofs.types.Record.write.Needs as need
 
 pub returns : need.returns
 returns c =
-  let w = c .write-at-start .ensures in
-  let r = said (c .args .self .now) in
-  let old = c .args .buffer .now in
-  record {
-    answer = w .answer;
-    after = w .after;
-    rereads = ap reading (w .after) ∙ rereads r old (w .fits) ∙ ap (λ answer. reread answer r old) (sym (w .answer));
-  }
+    let w = c .write-at-start .ensures in
+    let r = said (c .args .self .now) in
+    let old = c .args .buffer .now in
+    record {
+      answer = w .answer;
+      after = w .after;
+      rereads = ap reading (w .after) ∙ rereads r old (w .fits) ∙ ap (λ answer. reread answer r old) (sym (w .answer));
+    }

@@ -7,5 +7,5 @@ use Rattle.registers.proofs.flags.Flags.byte.Needs as need
 
 pub returns : need.returns
 returns c =
-  let e : 64 * c .from .result + 32 * c .from-2 .result + 16 * c .from-3 .result + 8 * c .from-4 .result + 4 * c .from-5 .result + c .from-6 .result ≡ psw (c .args .self) = search needs in
-  record { value = e; inverse = ap flags-of e ∙ flags-again (c .args .self) }
+    let e : 64 * c .from .result + 32 * c .from-2 .result + 16 * c .from-3 .result + 8 * c .from-4 .result + 4 * c .from-5 .result + c .from-6 .result ≡ psw (c .args .self) = search needs in
+    record { value = e; inverse = ap flags-of e ∙ flags-again (c .args .self) }

@@ -13,8 +13,8 @@ returns-then-number-lt10 t c = record {
 
 pub text-requires-2 : need.text-requires-2
 text-requires-2 t c κs =
-  let l = length-decimal-le 19 (c .args .number / 10) (omega arith) (omega arith) (omega arith) in
-  omega (arith, c .decimal .ensures .text .puts .moves, c .decimal .ensures .text .puts .size)
+    let l = length-decimal-le 19 (c .args .number / 10) (omega arith) (omega arith) (omega arith) in
+    omega (arith, c .decimal .ensures .text .puts .moves, c .decimal .ensures .text .puts .size)
 
 pub returns : need.returns
 returns t c = record {

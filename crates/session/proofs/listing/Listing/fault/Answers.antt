@@ -7,5 +7,5 @@ use Rattle.session.proofs.listing.Listing.fault.Needs as need
 
 pub returns : need.returns
 returns c =
-  let first = reworded (ap (λ n. codes "F " ++ decimal n) (c .from .ensures)) (c .number .ensures .text) in
-  first ▸ c .number-2 .ensures .text ▸ c .number-3 .ensures .text ▸ c .text .ensures
+    let first = reworded (ap (λ n. codes "F " ++ decimal n) (c .from .ensures)) (c .number .ensures .text) in
+    first ▸ c .number-2 .ensures .text ▸ c .number-3 .ensures .text ▸ c .text .ensures

@@ -7,5 +7,5 @@ use Rattle.session.proofs.listing.Listing.pointers.Needs as need
 
 pub returns : need.returns
 returns c =
-  let psw-field = reworded (ap (λ byte. codes " PSW " ++ hex2 byte) (c .byte .ensures .value)) (c .byte-2 .ensures) in
-  c .word .ensures ▸ c .word-2 .ensures ▸ c .word-3 .ensures ▸ psw-field ▸ c .text .ensures
+    let psw-field = reworded (ap (λ byte. codes " PSW " ++ hex2 byte) (c .byte .ensures .value)) (c .byte-2 .ensures) in
+    c .word .ensures ▸ c .word-2 .ensures ▸ c .word-3 .ensures ▸ psw-field ▸ c .text .ensures
