@@ -34,19 +34,18 @@ ended-by e = ending (e .0) (e .1)
 abbrev pub refused : SessionFault → List ℕ → Played
 refused f memory = record { fault = Some f; memory = memory; text = [] }
 
--- a session played on a memory, with so many bytes for its listing
-abbrev pub played : ℕ → List ℕ → List ℕ → Played
-played room session memory =
-    cond (ltb room 2048) (refused ListingShort memory)
-    (cond (ltb 16384 (length session)) (refused SessionLong memory)
-    (ended-by (load-all (fresh memory) session)))
+-- a session played on a memory, with so many bytes for its listing; `long` is what a session that is too long makes
+abbrev pub playing : Played → ℕ → List ℕ → List ℕ → Played
+playing long room session memory =
+    cond (ltb room 2048) (refused ListingShort memory) (cond (ltb 16384 (length session)) long (ended-by (load-all (fresh memory) session)))
 
--- the same with the line of the fault for a session that is too long as well
+-- a session that is too long is refused, and nothing is written
+abbrev pub played : ℕ → List ℕ → List ℕ → Played
+played room session memory = playing (refused SessionLong memory) room session memory
+
+-- the same, with the line of that fault
 abbrev pub listed : ℕ → List ℕ → List ℕ → Played
-listed room session memory =
-    cond (ltb room 2048) (refused ListingShort memory)
-    (cond (ltb 16384 (length session)) (ending (fresh memory) (Err SessionLong))
-    (ended-by (load-all (fresh memory) session)))
+listed room session memory = playing (ending (fresh memory) (Err SessionLong)) room session memory
 
 -- the memory that the program plays on: a zero byte for each address
 unfoldable pub blank : List ℕ
