@@ -90,8 +90,10 @@ impl Loader {
             ),
             Record::Page { page, bytes } => store_page(&mut self.memory, *page, bytes),
             Record::Fix { below } => self.fixed_below = *below,
-            Record::Set { register, value } => return self.core
-                .set(u32::from(*register), u32::from(*value)),
+            Record::Set { register, value } => {
+                let value = u32::from(*value);
+                return self.core.set(u32::from(*register), value);
+            }
             Record::End => self.ended = true,
             Record::Grant { .. } | Record::Signal { .. } | Record::Reset => {}
         }
