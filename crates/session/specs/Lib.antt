@@ -3,4 +3,5 @@ pub mod Appends
 pub mod Sheet
 pub mod Faults
 pub mod Load
+pub mod Machine
 pub mod Play

@@ -2,6 +2,7 @@
 pub mod fault;
 mod listing;
 mod load;
+mod machine;
 pub mod play;
 pub mod printout;
 mod sheet;

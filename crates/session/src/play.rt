@@ -8,6 +8,7 @@ ghost use Rattle.session.specs.Play.{played, ending, listed};
 ghost use Rattle.session.specs.Text.{Puts};
 use crate::fault::SessionFault;
 use crate::load::Loader;
+use crate::machine::Machine;
 use crate::sheet::put_fault;
 use crate::sheet::put_sheet;
 
@@ -57,12 +58,12 @@ fn list(loader: Loader, answer: Result<(), SessionFault>, listing: &mut [u8]) ->
     ensures memory { λ r. ⌜ vec-items (r .memory) ≡ ending (view loader) answer .memory ⌝ }
     ensures listing { λ r. ⌜ Puts (now (listing .entry)) 0 (ending (view loader) answer .text) (now (listing .exit)) (r .written) ⌝ }
 {
-    let Loader { core, memory, .. } = loader;
     match answer {
         Ok(()) => {
-            let written = put_sheet(listing, &core.into_core().registers);
+            let Machine { core, board, .. } = loader.into_machine();
+            let written = put_sheet(listing, &core.registers);
             Outcome {
-                memory,
+                memory: board.into_memory(),
                 written,
                 fault: None,
             }
@@ -71,7 +72,7 @@ fn list(loader: Loader, answer: Result<(), SessionFault>, listing: &mut [u8]) ->
             let place = fault.place();
             let written = put_fault(listing, fault.number(), place.number, place.offset);
             Outcome {
-                memory,
+                memory: loader.memory,
                 written,
                 fault: Some(fault),
             }

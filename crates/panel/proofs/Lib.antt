@@ -1,0 +1,4 @@
+pub mod Both
+pub mod Records
+pub mod Ordered
+pub mod Clock

@@ -1,0 +1,4 @@
+pub mod Timing
+pub mod Timed
+pub mod Counting
+pub mod TimersOf
