@@ -11,12 +11,12 @@ abbrev pub filled : List ℕ → ℕ
 filled rom = min (length rom) 4096
 
 -- by the part an address lies in: the image, the gap above it, the RAM at FF00H to FFFFH, nothing
-abbrev pub by-part : {X : Type 0} → List ℕ → ℕ → X → X → X → X → X
-by-part rom a image gap ram none = cond (ltb a (filled rom)) image (cond (ltb a 65280) gap (cond (ltb a 65536) ram none))
+abbrev pub byPart : {X : Type 0} → List ℕ → ℕ → X → X → X → X → X
+byPart rom a image gap ram none = cond (ltb a (filled rom)) image (cond (ltb a 65280) gap (cond (ltb a 65536) ram none))
 
 -- the image and the RAM hold their bytes, all else 255; only the RAM is not fixed
 abbrev pub maskRomCells : List ℕ → List ℕ → Cells
 maskRomCells rom ram = record {
-  at = λ a. by-part rom a (getD rom a 0) 255 (getD ram (a - 65280) 0) 255;
-  fixed = λ a. by-part rom a true true false true;
+  at = λ a. byPart rom a (getD rom a 0) 255 (getD ram (a - 65280) 0) 255;
+  fixed = λ a. byPart rom a true true false true;
 }

@@ -8,15 +8,15 @@ use Rattle.board.specs.Cells.{Cells}
 use Rattle.board.specs.Flat.{flatCells, FlatRest, flatRest}
 use Rattle.board.specs.MaskRom.{maskRomCells}
 
-abbrev pub flat-cells : FlatBoard → Cells
-flat-cells b = flatCells (vec-items (b .memory)) (b .«fixed_below»)
+abbrev pub flatOf : FlatBoard → Cells
+flatOf b = flatCells (vec-items (b .memory)) (b .«fixed_below»)
 
-abbrev pub flat-rest : FlatBoard → FlatRest
-flat-rest b = flatRest (vec-items (b .memory)) (b .«fixed_below»)
+abbrev pub flatRestOf : FlatBoard → FlatRest
+flatRestOf b = flatRest (vec-items (b .memory)) (b .«fixed_below»)
 
-abbrev pub mask-rom-cells : MaskRomBoard → Cells
-mask-rom-cells b = maskRomCells (vec-items (b .rom)) (b .ram)
+abbrev pub maskRomOf : MaskRomBoard → Cells
+maskRomOf b = maskRomCells (vec-items (b .rom)) (b .ram)
 
 -- no write changes the ROM image
-abbrev pub mask-rom-image : MaskRomBoard → List ℕ
-mask-rom-image b = vec-items (b .rom)
+abbrev pub imageOf : MaskRomBoard → List ℕ
+imageOf b = vec-items (b .rom)

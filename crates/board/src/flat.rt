@@ -2,7 +2,7 @@
 ghost use mathlib.Core.Path.{_≡_};
 ghost use Rattle.std.specs.Of.Vec.{vec-items};
 ghost use Rattle.board.specs.Flat.{flatCells, flatRest, flatMemory, FlatRest};
-ghost use Rattle.board.specs.Of.{flat-cells, flat-rest};
+ghost use Rattle.board.specs.Of.{flatOf, flatRestOf};
 use crate::ABSENT;
 use crate::Board;
 
@@ -16,8 +16,8 @@ pub struct FlatBoard {
 impl FlatBoard {
     /// A board over a memory, fixed below a number.
     pub fn new(memory: Vec<u8>, fixed_below: u32) -> FlatBoard
-        ensures cells { λ r. ⌜ flat-cells r ≡ flatCells (vec-items memory) «fixed_below» ⌝ }
-        ensures rest { λ r. ⌜ flat-rest r ≡ flatRest (vec-items memory) «fixed_below» ⌝ }
+        ensures cells { λ r. ⌜ flatOf r ≡ flatCells (vec-items memory) «fixed_below» ⌝ }
+        ensures rest { λ r. ⌜ flatRestOf r ≡ flatRest (vec-items memory) «fixed_below» ⌝ }
     {
         FlatBoard {
             memory,
@@ -27,7 +27,7 @@ impl FlatBoard {
 
     /// The memory back, with its unused bytes.
     pub fn into_memory(self) -> Vec<u8>
-        ensures { λ r. ⌜ vec-items r ≡ flatMemory (flat-cells self) (flat-rest self) ⌝ }
+        ensures { λ r. ⌜ vec-items r ≡ flatMemory (flatOf self) (flatRestOf self) ⌝ }
     {
         let FlatBoard { memory, .. } = self;
         memory
@@ -35,11 +35,11 @@ impl FlatBoard {
 }
 
 pub impl Board for FlatBoard as FlatBoardCells {
-    ghost cells = { flat-cells };
+    ghost cells = { flatOf };
 
     ghost Rest = { FlatRest };
 
-    ghost rest = { flat-rest };
+    ghost rest = { flatRestOf };
 
     fn read(&self, address: u16) -> u8 {
         let at = usize::from(address);

@@ -5,7 +5,7 @@ ghost use Prim.Native.Nat.{ℕ};
 ghost use lib.ListN.{replicate};
 ghost use Rattle.std.specs.Of.Vec.{vec-items};
 ghost use Rattle.board.specs.MaskRom.{maskRomCells};
-ghost use Rattle.board.specs.Of.{mask-rom-cells, mask-rom-image};
+ghost use Rattle.board.specs.Of.{maskRomOf, imageOf};
 use crate::ABSENT;
 use crate::Board;
 
@@ -25,15 +25,15 @@ pub struct MaskRomBoard {
 impl MaskRomBoard {
     /// A board with a ROM image, its RAM zero.
     pub fn new(rom: Vec<u8>) -> MaskRomBoard
-        ensures cells { λ r. ⌜ mask-rom-cells r ≡ maskRomCells (vec-items rom) (replicate 256 0) ⌝ }
-        ensures image { λ r. ⌜ mask-rom-image r ≡ vec-items rom ⌝ }
+        ensures cells { λ r. ⌜ maskRomOf r ≡ maskRomCells (vec-items rom) (replicate 256 0) ⌝ }
+        ensures image { λ r. ⌜ imageOf r ≡ vec-items rom ⌝ }
     {
         MaskRomBoard { rom, ram: [0; 256] }
     }
 
     /// The ROM image back, whole.
     pub fn into_rom(self) -> Vec<u8>
-        ensures { λ r. ⌜ vec-items r ≡ mask-rom-image self ⌝ }
+        ensures { λ r. ⌜ vec-items r ≡ imageOf self ⌝ }
     {
         let MaskRomBoard { rom, .. } = self;
         rom
@@ -41,11 +41,11 @@ impl MaskRomBoard {
 }
 
 pub impl Board for MaskRomBoard as MaskRomBoardCells {
-    ghost cells = { mask-rom-cells };
+    ghost cells = { maskRomOf };
 
     ghost Rest = { List ℕ };
 
-    ghost rest = { mask-rom-image };
+    ghost rest = { imageOf };
 
     fn read(&self, address: u16) -> u8 {
         let at = usize::from(address);

@@ -2,7 +2,7 @@
 ghost use mathlib.Core.Path.{_≡_};
 ghost use Rattle.std.specs.Of.Vec.{vec-items};
 ghost use Rattle.board.specs.Flat.{flatCells, flatRest};
-ghost use Rattle.board.specs.Of.{flat-cells, flat-rest};
+ghost use Rattle.board.specs.Of.{flatOf, flatRestOf};
 ghost use Rattle.panel.specs.BenchOf.{benchOf};
 ghost use Rattle.session.specs.Machine.{quiet};
 ghost use Rattle.timers.specs.TimersOf.{timersOf};
@@ -25,8 +25,8 @@ impl Loader {
     /// What the session loaded, with a fresh panel.
     pub(crate) fn into_machine(self) -> Machine
         ensures core { λ r. ⌜ r .core ≡ self .core .core ⌝ }
-        ensures cells { λ r. ⌜ flat-cells (r .board) ≡ flatCells (vec-items (self .memory)) (self .«fixed_below») ⌝ }
-        ensures rest { λ r. ⌜ flat-rest (r .board) ≡ flatRest (vec-items (self .memory)) (self .«fixed_below») ⌝ }
+        ensures cells { λ r. ⌜ flatOf (r .board) ≡ flatCells (vec-items (self .memory)) (self .«fixed_below») ⌝ }
+        ensures rest { λ r. ⌜ flatRestOf (r .board) ≡ flatRest (vec-items (self .memory)) (self .«fixed_below») ⌝ }
         ensures panel { λ r. ⌜ timersOf benchOf (r .panel) ≡ quiet ⌝ }
     {
         let Loader {
