@@ -1,0 +1,10 @@
+pub mod Widths
+pub mod Naming
+pub mod Sums
+pub mod Operations
+pub mod Counting
+pub mod Shifts
+pub mod Products
+pub mod Digits
+pub mod Decimal
+pub mod Offsets

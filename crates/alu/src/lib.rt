@@ -1,0 +1,38 @@
+// The arithmetic of the processor: the values that it forms, and the flags that they set.
+mod arithmetic;
+mod counting;
+mod digits;
+mod offsets;
+mod operation;
+mod products;
+mod shifts;
+mod sums;
+mod width;
+
+pub use arithmetic::operate;
+pub use arithmetic::operate_byte;
+pub use counting::decrement;
+pub use counting::increment;
+pub use counting::negate;
+pub use digits::decimal_adjust;
+pub use digits::rotate_digits_left;
+pub use digits::rotate_digits_right;
+pub use offsets::extend_nine;
+pub use offsets::extend_six;
+pub use operation::Operation;
+pub use operation::OperationDebug;
+pub use operation::OperationEq;
+pub use operation::OperationPartialEq;
+pub use products::divide;
+pub use products::multiply;
+pub use shifts::Shift;
+pub use shifts::ShiftDebug;
+pub use shifts::ShiftEq;
+pub use shifts::ShiftPartialEq;
+pub use shifts::shift_bits;
+pub use shifts::shift_byte;
+pub use shifts::shift_byte_and_skip;
+pub use width::Width;
+pub use width::WidthDebug;
+pub use width::WidthEq;
+pub use width::WidthPartialEq;
