@@ -1,0 +1,4 @@
+pub mod Rows
+pub mod Operands
+pub mod Back
+pub mod Forth
