@@ -18,7 +18,7 @@ use Rattle.isa.specs.declared.encoding.Opcode.{Opcode}
 use Rattle.isa.specs.declared.encoding.Opcode.the-variants.{One, Two}
 use Rattle.isa.specs.declared.instructions.Instruction.{Instruction}
 use Rattle.isa.specs.declared.instructions.Instruction.the-variants.{MovToR1, MovFromR1, MovToSr, MovFromSr1, MovLoad, MovStore, Mvi, MviSr2, Mviw, Mvix, Staw, Ldaw, Stax, Ldax, Exx, Exa, Exh, Block, DmovFromEa, DmovToEa, StoreRp, LoadRp, Steax, Ldeax, Push, Pop, Lxi, Table, OperateA, OperateR, OperateX, OperateByte, OperateRByte, OperateSr2, OperateW, OperateWByte, OperateEa, Eadd, Esub, Mul, Div, Inr, Dcr, Inrw, Dcrw, Inx, Dcx, Daa, Stc, Clc, Nega, Rld, Rrd, Rll, Rlr, Sll, Slr, Sllc, Slrc, Drll, Drlr, Dsll, Dslr, Jmp, Jb, Jr, JreForward, JreBackward, Jea, Call, Calb, Calf, Calt, Softi, Ret, Rets, Reti, Bit, Sk, Skn, Skit, Sknit, Nop, Ei, Di, Hlt}
-use Rattle.isa_laws.proofs.Rows.{row, agree}
+use Rattle.isa.proofs.Rows.{row, agree}
 use Rattle.isa_laws.proofs.Operands.{by-register, by-r1, by-r2, by-rp, by-rp1, by-rp2, by-rp3, by-rpa2, by-rpa3, by-flag, by-operation, by-line}
 
 -- what an opcode decodes to, whatever stands behind it, and what it should

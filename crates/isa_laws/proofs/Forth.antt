@@ -17,7 +17,7 @@ use Rattle.isa.specs.declared.encoding.Opcode.the-variants.{One, Two}
 use Rattle.isa.specs.declared.decoding.Undefined.the-variants.{First, Second}
 use Rattle.isa.specs.declared.instructions.Instruction.{Instruction}
 use Rattle.isa_laws.specs.Laws.{prefix, Alone, Deciding, counted, begins, Inverse}
-use Rattle.isa_laws.proofs.Rows.{row, agree}
+use Rattle.isa.proofs.Rows.{row, agree}
 use Rattle.isa_laws.proofs.Back.{reached, wanted, back}
 
 -- a test passes at each number below a bound

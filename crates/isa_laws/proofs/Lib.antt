@@ -1,4 +1,3 @@
-pub mod Rows
 pub mod Operands
 pub mod Back
 pub mod Forth

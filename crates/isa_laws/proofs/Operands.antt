@@ -30,7 +30,7 @@ use Rattle.isa.specs.declared.operands.Rpa3.the-variants as rpa3
 use Rattle.isa.specs.declared.operands.Flag.{Flag}
 use Rattle.isa.specs.declared.operands.Flag.the-variants as flag
 use Rattle.isa.specs.Codes.{register-at, r1-at, r2-at, rp-at, rp1-at, rp2-at, rp3-at, rpa2-at, rpa3-at, flag-at, operation-at, line-at, register-code, r1-code, r2-code, rp-code, rp1-code, rp2-code, rp3-code, rpa2-code, rpa3-code, flag-code, operation-code}
-use Rattle.isa_laws.proofs.Rows.{row, agree}
+use Rattle.isa.proofs.Rows.{row, agree}
 
 module _ {X : Type 0} {Y : Type 0} (at : ℕ → Y) (code : Y → ℕ) (m : ℕ) (low : (y : Y) → code y < m) (again : (y : Y) → at (code y) ≡ y) where
   pub at-codes : (f g : Y → X) → row (λ n. f (at n)) 0 m ≡ row (λ n. g (at n)) 0 m → (y : Y) → f y ≡ g y
