@@ -1,4 +1,6 @@
 // The arithmetic of the processor: the values that it forms, and the flags that they set.
+#![tactic(auto)]
+
 mod arithmetic;
 mod counting;
 mod digits;

@@ -1,4 +1,6 @@
 // Cases of the processor's arithmetic, mostly rows of tables.
+#![tactic(auto)]
+
 #[cfg(test)]
 mod bytes;
 #[cfg(test)]

@@ -1,4 +1,6 @@
 // Arithmetic, shifts and rotates on registers and memory.
+#![tactic(auto)]
+
 mod choice;
 mod counting;
 mod named;

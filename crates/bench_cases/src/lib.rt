@@ -1,4 +1,6 @@
 // Runs the crates on worked cases: boards of every size, registers by number, records, and sessions with their listings.
+#![tactic(auto)]
+
 #[cfg(test)]
 mod boards;
 #[cfg(test)]

@@ -1,4 +1,6 @@
 // Boards: the memory that a core reads and writes.
+#![tactic(auto)]
+
 ghost use Rattle.std.specs.Prelude.{◌≡◌};
 ghost use Rattle.board.specs.Cells.{Cells, written, Bounded};
 

@@ -1,4 +1,6 @@
 // One step of the processor: an interrupt's entry, an idle, a skip or an execution, and the states that it counts.
+#![tactic(auto)]
+
 mod codes;
 mod entry;
 mod pick;

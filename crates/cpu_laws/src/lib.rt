@@ -1,4 +1,6 @@
 // The laws of the stack and of skips, each beside what drives a machine through it: a call and its return, a push and its pop, an interrupt and its return, and a step.
+#![tactic(auto)]
+
 mod calls;
 mod interrupts;
 mod pairs;

@@ -1,4 +1,6 @@
 // The instruction set: instructions, their codes, lengths and states.
+#![tactic(auto)]
+
 mod codes;
 mod costs;
 mod decoding;

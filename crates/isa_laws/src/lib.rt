@@ -1,4 +1,6 @@
 // The laws of the codes: which second bytes count, how many codes are defined, and that encoding and decoding are inverse.
+#![tactic(auto)]
+
 ghost use Rattle.std.specs.Prelude.{◌≡◌, true, Ok};
 ghost use Rattle.isa.specs.Decoding.{decoded};
 ghost use Rattle.isa.specs.Encoding.{encoded};

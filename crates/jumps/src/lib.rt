@@ -1,4 +1,6 @@
 // Jumps, calls and returns.
+#![tactic(auto)]
+
 mod calls;
 mod choice;
 mod targets;

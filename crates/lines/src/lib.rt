@@ -1,4 +1,6 @@
 // The interrupt lines 0 to 10, sets of them, and their levels.
+#![tactic(auto)]
+
 mod level;
 mod line;
 mod set;

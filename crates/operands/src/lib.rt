@@ -1,4 +1,6 @@
 // What the operands of an instruction name, as the families of instructions share it: words, data bytes, places in memory, the stack.
+#![tactic(auto)]
+
 mod memory;
 mod places;
 mod words;

@@ -1,4 +1,6 @@
 // What every kind of panel does, and the bench panel.
+#![tactic(auto)]
+
 ghost use Rattle.std.specs.Prelude.{◌≡◌};
 ghost use Rattle.lines.specs.Of.{lines_of};
 ghost use Rattle.panel.specs.Rules.{Rules, OnlyLines, code_of, states_of, passed, rose};

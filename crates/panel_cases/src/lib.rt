@@ -1,4 +1,6 @@
 // Cases of the lines and their marks, the bench panel and the timers, each a call on a line of its own.
+#![tactic(auto)]
+
 #[cfg(test)]
 mod bench;
 #[cfg(test)]

@@ -1,4 +1,6 @@
 // The records of a session: their kinds, their reader and their writer.
+#![tactic(auto)]
+
 pub mod fault;
 pub mod kind;
 pub mod read;

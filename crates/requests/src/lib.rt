@@ -1,4 +1,6 @@
 // The marks of the interrupt lines, and what is counted of each line.
+#![tactic(auto)]
+
 mod requests;
 mod tally;
 

@@ -1,4 +1,6 @@
 // Plays sessions: records that load a memory and a bench core, and the listing of what came of them.
+#![tactic(auto)]
+
 pub mod fault;
 mod listing;
 mod load;

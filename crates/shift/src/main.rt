@@ -1,4 +1,6 @@
 // Reads a session from standard input, plays it and writes its listing to standard output.
+#![tactic(auto)]
+
 use session::play::LONGEST;
 use session::printout::printout;
 use std::io::{Read, Write};

@@ -1,4 +1,6 @@
 // The timers, which stand before any panel and are a panel again.
+#![tactic(auto)]
+
 mod front;
 mod pair;
 mod timer;

@@ -1,4 +1,6 @@
 // Transfers between registers and memory.
+#![tactic(auto)]
+
 mod bytes;
 mod choice;
 mod exchange;
