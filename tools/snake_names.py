@@ -14,8 +14,8 @@ DECLARED = re.compile(r"^[ \t]*(?:(?:abbrev|unfoldable|opaque|pub)[ \t]+)*([a-z]
 FIELD = re.compile(r"^\s+pub\s+([a-z][\w'-]*)\s*:", re.M)
 GOAL = re.compile(r"^\s*(?:pub\s+)?([\w'·-]+)\s*:\s*goal\.", re.M)
 FUNCTION = re.compile(r"\bfn\s+([a-z]\w*)")
-# A name that falls together with one of another crate, which it is defined by.
-OTHER = {"line-at": "line_coded"}
+# Names that would fall together with another that their own statements cite.
+OTHER = {"line-at": "line_coded", "bit-or": "bit_of_or", "bit-and": "bit_of_and"}
 ALIAS = re.compile(r" as ([a-z][\w'-]*)")
 MADE = re.compile(r"(?:invariant|decreases|requires|overflow|returns)-")
 

@@ -34,14 +34,14 @@ out_small (suc zero) (suc (suc q)) h g = absurd (omega arith)
 out_small (suc (suc p)) q h g = absurd (omega arith)
 
 module _ (a b k : ℕ) where
-  pub bit_or : bit (bit_or a b) k ≡ (bit a k || bit b k)
+  pub bit_of_or : bit (bit_or a b) k ≡ (bit a k || bit b k)
   unfolding bit
-  bit_or = ap (λ n. eqb (n % 2) 1) (or_shr a b k) ∙ ap (λ n. eqb n 1) (or_mod (a / 2 ^ k) (b / 2 ^ k) 1)
+  bit_of_or = ap (λ n. eqb (n % 2) 1) (or_shr a b k) ∙ ap (λ n. eqb n 1) (or_mod (a / 2 ^ k) (b / 2 ^ k) 1)
       ∙ or_small (a / 2 ^ k % 2) (b / 2 ^ k % 2) (omega arith) (omega arith)
 
-  pub bit_and : bit (bit_and a b) k ≡ (bit a k && bit b k)
+  pub bit_of_and : bit (bit_and a b) k ≡ (bit a k && bit b k)
   unfolding bit
-  bit_and = ap (λ n. eqb (n % 2) 1) (and_shr a b k) ∙ ap (λ n. eqb n 1) (and_mod (a / 2 ^ k) (b / 2 ^ k) 1)
+  bit_of_and = ap (λ n. eqb (n % 2) 1) (and_shr a b k) ∙ ap (λ n. eqb n 1) (and_mod (a / 2 ^ k) (b / 2 ^ k) 1)
       ∙ and_small (a / 2 ^ k % 2) (b / 2 ^ k % 2) (omega arith) (omega arith)
 
   pub bit_out : bit (bit_xor a (bit_and a b)) k ≡ (bit a k && not (bit b k))
@@ -162,7 +162,7 @@ module _ (a : ℕ) (ok : a < 2048) where
     in_lt = or_lt 11 a ((1 * 2 ^ line) % 65536) ok (omega (arith, shifted, pow_below line 11 h))
 
     pub inserted : bit (bit_or a ((1 * 2 ^ line) % 65536)) ≡ with_line (bit a) line
-    inserted = fun_ext (λ k. bit_or a ((1 * 2 ^ line) % 65536) k ∙ ap (λ b. bit a k || b) (ap (λ n. bit n k) shifted ∙ bit_power line k))
+    inserted = fun_ext (λ k. bit_of_or a ((1 * 2 ^ line) % 65536) k ∙ ap (λ b. bit a k || b) (ap (λ n. bit n k) shifted ∙ bit_power line k))
 
     pub removed : bit (bit_xor a (bit_and a ((1 * 2 ^ line) % 65536))) ≡ without (bit a) line
     removed = fun_ext (λ k. bit_out a ((1 * 2 ^ line) % 65536) k

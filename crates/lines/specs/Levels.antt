@@ -1,5 +1,5 @@
 -- The levels of the lines, their vectors, and what an entry at a level clears.
-use Rattle.std.specs.Prelude.{ℕ, cond, Some, None, Option, ◌==◌}
+use Rattle.std.specs.Prelude.{ℕ, Bool, cond, Some, None, Option, ◌==◌}
 use Rattle.lines.specs.declared.line.Line.{Line}
 use Rattle.lines.specs.declared.line.Line.TheVariants.{Nmi as NmiLine, Ft0, Ft1, F1, F2, Fe0, Fe1, Fein, Fad, Fsr, Fst}
 use Rattle.lines.specs.declared.level.Level.{Level}

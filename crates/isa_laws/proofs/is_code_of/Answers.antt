@@ -11,8 +11,8 @@ returns c =
     let i = c.args.instruction in
     let f : first < 256 = search rules in
     let s : second < 256 = search rules in
-    let value : c.begins-with.result ≡ begins (encoded i) first second =
-    c.begins-with.ensures ∙ ap (λ o. begins o first second) c.encode.ensures in
+    let value : c.begins_with.result ≡ begins (encoded i) first second =
+    c.begins_with.ensures ∙ ap (λ o. begins o first second) c.encode.ensures in
     record {
       value = value;
       sound = λ h. (inverse first second f s i).0 (sym value ∙ h);

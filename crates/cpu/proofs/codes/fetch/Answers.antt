@@ -5,4 +5,4 @@ use Rattle.cpu.proofs.codes.fetch.Goals as goal
 
 pub returns : goal.returns
 unfolding code_at
-returns g c = c.decode.ensures ∙ (λ i. decoded (c.read-first.ensures i) (c.read-second.ensures i))
+returns g c = c.decode.ensures ∙ (λ i. decoded (c.read_first.ensures i) (c.read-second.ensures i))

@@ -4,13 +4,13 @@ use Rattle.cpu.specs.Step.{outcome, elapsed}
 use Rattle.cpu.proofs.Outcomes.{if_stopped, if_counted}
 use Rattle.cpu.proofs.steps.step.Goals as goal
 
-pub returns-in-err-states : goal.returns-in-err-states
-returns-in-err-states g c =
+pub returns-in_err-states : goal.returns-in_err-states
+returns-in_err-states g c =
     let rules = g.P.Panel.rules in
     let m = model_of g.B.Board.cells g.P.Panel.standing c.args.machine.now in
-    let known = c.in-err-states.ensures in
+    let known = c.in_err-states.ensures in
     record {
-      after = known.after ∙ if_stopped rules (outcome rules m) m c.in-err-states.field-0.0 (sym known.answer);
+      after = known.after ∙ if_stopped rules (outcome rules m) m c.in_err-states.field-0.0 (sym known.answer);
       answer = search rules;
       counted = search rules;
       keeps = known.keeps;
@@ -20,8 +20,8 @@ pub returns : goal.returns
 returns g c =
     let rules = g.P.Panel.rules in
     let m = model_of g.B.Board.cells g.P.Panel.standing c.args.machine.now in
-    let n = c.in-ok-states.states in
-    let known = c.in-ok-states.ensures in
+    let n = c.in_ok-states.states in
+    let known = c.in_ok-states.ensures in
     record {
       after = c.elapse.ensures.after ∙ (ap (elapsed rules n) known.after ∙ if_counted rules (outcome rules m) m n (sym known.answer));
       answer = known.answer;

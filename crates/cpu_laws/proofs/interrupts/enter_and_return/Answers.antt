@@ -10,14 +10,14 @@ use Rattle.cpu_laws.specs.Laws.{EntryReturns}
 use Rattle.cpu_laws.proofs.EntryReturn.{entry_returns, if_stopped, if_counted}
 use Rattle.cpu_laws.proofs.interrupts.enter_and_return.Goals as goal
 
-pub returns-in-err-states : goal.returns-in-err-states
-returns-in-err-states g c =
+pub returns-in_err-states : goal.returns-in_err-states
+returns-in_err-states g c =
     let S = g.P.Panel.Standing in
     let rules = g.P.Panel.rules in
     let m = model_of g.B.Board.cells g.P.Panel.standing c.args.machine.now in
     let e = model_of g.B.Board.cells g.P.Panel.standing c.step.new.machine in
-    let known = c.in-err-states.ensures in
-    let done : e ≡ stepped_and_returned rules (outcome rules m) m = known.after ∙ if_stopped rules (outcome rules m) m c.in-err-states.field-0.0 (sym known.answer) in
+    let known = c.in_err-states.ensures in
+    let done : e ≡ stepped_and_returned rules (outcome rules m) m = known.after ∙ if_stopped rules (outcome rules m) m c.in_err-states.field-0.0 (sym known.answer) in
     record {
       after = done;
       answer = search rules;
@@ -31,9 +31,9 @@ returns g c =
     let rules = g.P.Panel.rules in
     let m = model_of g.B.Board.cells g.P.Panel.standing c.args.machine.now in
     let e = model_of g.B.Board.cells g.P.Panel.standing c.execute.new.machine in
-    let known = c.in-ok-states.ensures in
+    let known = c.in_ok-states.ensures in
     let done : e ≡ stepped_and_returned rules (outcome rules m) m =
-    c.execute.ensures.after ∙ (ap (executed rules (family.Jump Reti)) known.after ∙ if_counted rules (outcome rules m) m c.in-ok-states.states (sym known.answer)) in
+    c.execute.ensures.after ∙ (ap (executed rules (family.Jump Reti)) known.after ∙ if_counted rules (outcome rules m) m c.in_ok-states.states (sym known.answer)) in
     record {
       after = done;
       answer = known.answer;

@@ -10,6 +10,6 @@ pub returns-in-3 : goal.returns-in-3
 unfolding flag_at
 returns-in-3 c = search rules
 
-pub returns-in-default : goal.returns-in-default
+pub returns-in_default : goal.returns-in_default
 unfolding flag_at
-returns-in-default c = search rules
+returns-in_default c = search rules

@@ -30,6 +30,6 @@ pub returns-in-6 : goal.returns-in-6
 unfolding register_at
 returns-in-6 c = search rules
 
-pub returns-in-default : goal.returns-in-default
+pub returns-in_default : goal.returns-in_default
 unfolding register_at
-returns-in-default c = search rules
+returns-in_default c = search rules

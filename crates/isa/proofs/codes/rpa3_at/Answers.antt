@@ -34,6 +34,6 @@ pub returns-in-14 : goal.returns-in-14
 unfolding rpa3_at
 returns-in-14 c = search rules
 
-pub returns-in-default : goal.returns-in-default
+pub returns-in_default : goal.returns-in_default
 unfolding rpa3_at
-returns-in-default c = search rules
+returns-in_default c = search rules

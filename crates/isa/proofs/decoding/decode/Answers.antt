@@ -173,53 +173,53 @@ returns-in-176 c = via_48 _ c.args.first c.args.second (search rules) (search ru
 pub returns-in-180 : goal.returns-in-180
 returns-in-180 c = via_48 _ c.args.first c.args.second (search rules) (search rules)
 
-pub returns-in-default : goal.returns-in-default
-returns-in-default c = via_48 _ c.args.first c.args.second (search rules) (search rules)
+pub returns-in_default : goal.returns-in_default
+returns-in_default c = via_48 _ c.args.first c.args.second (search rules) (search rules)
 
-pub returns-in-default·2 : goal.returns-in-default·2
-returns-in-default·2 c = via_48 _ c.args.first c.args.second (search rules) (search rules)
+pub returns-in_default-2 : goal.returns-in_default-2
+returns-in_default-2 c = via_48 _ c.args.first c.args.second (search rules) (search rules)
 
-pub returns-in-default·3 : goal.returns-in-default·3
-returns-in-default·3 c = via_48 _ c.args.first c.args.second (search rules) (search rules)
+pub returns-in_default-3 : goal.returns-in_default-3
+returns-in_default-3 c = via_48 _ c.args.first c.args.second (search rules) (search rules)
 
-pub returns-in-default·4 : goal.returns-in-default·4
-returns-in-default·4 c = via_48 _ c.args.first c.args.second (search rules) (search rules)
+pub returns-in_default-4 : goal.returns-in_default-4
+returns-in_default-4 c = via_48 _ c.args.first c.args.second (search rules) (search rules)
 
-pub returns-in-default·5 : goal.returns-in-default·5
-returns-in-default·5 c = via_48 _ c.args.first c.args.second (search rules) (search rules)
+pub returns-in_default-5 : goal.returns-in_default-5
+returns-in_default-5 c = via_48 _ c.args.first c.args.second (search rules) (search rules)
 
-pub returns-in-default·6 : goal.returns-in-default·6
-returns-in-default·6 c = via_48 _ c.args.first c.args.second (search rules) (search rules)
+pub returns-in_default-6 : goal.returns-in_default-6
+returns-in_default-6 c = via_48 _ c.args.first c.args.second (search rules) (search rules)
 
-pub returns-in-default·7 : goal.returns-in-default·7
-returns-in-default·7 c = via_48 _ c.args.first c.args.second (search rules) (search rules)
+pub returns-in_default-7 : goal.returns-in_default-7
+returns-in_default-7 c = via_48 _ c.args.first c.args.second (search rules) (search rules)
 
-pub returns-in-default·8 : goal.returns-in-default·8
-returns-in-default·8 c = via_48 _ c.args.first c.args.second (search rules) (search rules)
+pub returns-in_default-8 : goal.returns-in_default-8
+returns-in_default-8 c = via_48 _ c.args.first c.args.second (search rules) (search rules)
 
-pub returns-in-default·9 : goal.returns-in-default·9
-returns-in-default·9 c = via_48 _ c.args.first c.args.second (search rules) (search rules)
+pub returns-in_default-9 : goal.returns-in_default-9
+returns-in_default-9 c = via_48 _ c.args.first c.args.second (search rules) (search rules)
 
-pub returns-in-default·10 : goal.returns-in-default·10
-returns-in-default·10 c = via_48 _ c.args.first c.args.second (search rules) (search rules)
+pub returns-in_default-10 : goal.returns-in_default-10
+returns-in_default-10 c = via_48 _ c.args.first c.args.second (search rules) (search rules)
 
-pub returns-in-default·11 : goal.returns-in-default·11
-returns-in-default·11 c = via_48 _ c.args.first c.args.second (search rules) (search rules)
+pub returns-in_default-11 : goal.returns-in_default-11
+returns-in_default-11 c = via_48 _ c.args.first c.args.second (search rules) (search rules)
 
-pub returns-in-default·12 : goal.returns-in-default·12
-returns-in-default·12 c = via_48 _ c.args.first c.args.second (search rules) (search rules)
+pub returns-in_default-12 : goal.returns-in_default-12
+returns-in_default-12 c = via_48 _ c.args.first c.args.second (search rules) (search rules)
 
-pub returns-in-default·13 : goal.returns-in-default·13
-returns-in-default·13 c = via_48 _ c.args.first c.args.second (search rules) (search rules)
+pub returns-in_default-13 : goal.returns-in_default-13
+returns-in_default-13 c = via_48 _ c.args.first c.args.second (search rules) (search rules)
 
-pub returns-in-default·14 : goal.returns-in-default·14
-returns-in-default·14 c = via_48 _ c.args.first c.args.second (search rules) (search rules)
+pub returns-in_default-14 : goal.returns-in_default-14
+returns-in_default-14 c = via_48 _ c.args.first c.args.second (search rules) (search rules)
 
-pub returns-in-default·15 : goal.returns-in-default·15
-returns-in-default·15 c = via_48 _ c.args.first c.args.second (search rules) (search rules)
+pub returns-in_default-15 : goal.returns-in_default-15
+returns-in_default-15 c = via_48 _ c.args.first c.args.second (search rules) (search rules)
 
-pub returns-in-default·16 : goal.returns-in-default·16
-returns-in-default·16 c = via_48 _ c.args.first c.args.second (search rules) (search rules)
+pub returns-in_default-16 : goal.returns-in_default-16
+returns-in_default-16 c = via_48 _ c.args.first c.args.second (search rules) (search rules)
 
 pub returns-in-76 : goal.returns-in-76
 returns-in-76 c = via_4c _ c.args.first c.args.second (search rules) (search rules)
@@ -227,8 +227,8 @@ returns-in-76 c = via_4c _ c.args.first c.args.second (search rules) (search rul
 pub returns-in-76-2 : goal.returns-in-76-2
 returns-in-76-2 c = via_4c _ c.args.first c.args.second (search rules) (search rules)
 
-pub returns-in-76-2·2 : goal.returns-in-76-2·2
-returns-in-76-2·2 c = via_4c _ c.args.first c.args.second (search rules) (search rules)
+pub returns-in-76-2-2 : goal.returns-in-76-2-2
+returns-in-76-2-2 c = via_4c _ c.args.first c.args.second (search rules) (search rules)
 
 pub returns-in-77 : goal.returns-in-77
 returns-in-77 c = via_4d _ c.args.first c.args.second (search rules) (search rules)
@@ -236,8 +236,8 @@ returns-in-77 c = via_4d _ c.args.first c.args.second (search rules) (search rul
 pub returns-in-77-2 : goal.returns-in-77-2
 returns-in-77-2 c = via_4d _ c.args.first c.args.second (search rules) (search rules)
 
-pub returns-in-77-2·2 : goal.returns-in-77-2·2
-returns-in-77-2·2 c = via_4d _ c.args.first c.args.second (search rules) (search rules)
+pub returns-in-77-2-2 : goal.returns-in-77-2-2
+returns-in-77-2-2 c = via_4d _ c.args.first c.args.second (search rules) (search rules)
 
 pub returns-in-96 : goal.returns-in-96
 returns-in-96 c = via_60 _ c.args.first c.args.second (search rules) (search rules)
@@ -299,14 +299,14 @@ returns-in-104-to-111-second c = let e = agree (λ n. Ok (MovLoad (register_at (
 pub returns-in-120-to-127-second : goal.returns-in-120-to-127-second
 returns-in-120-to-127-second c = let e = agree (λ n. Ok (MovStore (register_at (n % 8)))) low_70 120 8 refl c.args.second (search rules) (search rules) in via_70_low _ c.args.first c.args.second (search rules) (search rules) (cc)
 
-pub returns-in-default-second : goal.returns-in-default-second
-returns-in-default-second c = via_70_low _ c.args.first c.args.second (search rules) (search rules) (search rules)
+pub returns-in_default-second : goal.returns-in_default-second
+returns-in_default-second c = via_70_low _ c.args.first c.args.second (search rules) (search rules) (search rules)
 
-pub returns-in-default-second·2 : goal.returns-in-default-second·2
-returns-in-default-second·2 c = via_70_low _ c.args.first c.args.second (search rules) (search rules) (search rules)
+pub returns-in_default-second-2 : goal.returns-in_default-second-2
+returns-in_default-second-2 c = via_70_low _ c.args.first c.args.second (search rules) (search rules) (search rules)
 
-pub returns-in-default-second·3 : goal.returns-in-default-second·3
-returns-in-default-second·3 c = via_70_low _ c.args.first c.args.second (search rules) (search rules) (search rules)
+pub returns-in_default-second-3 : goal.returns-in_default-second-3
+returns-in_default-second-3 c = via_70_low _ c.args.first c.args.second (search rules) (search rules) (search rules)
 
-pub returns-in-default-second·4 : goal.returns-in-default-second·4
-returns-in-default-second·4 c = via_70_low _ c.args.first c.args.second (search rules) (search rules) (search rules)
+pub returns-in_default-second-4 : goal.returns-in_default-second-4
+returns-in_default-second-4 c = via_70_low _ c.args.first c.args.second (search rules) (search rules) (search rules)

@@ -10,4 +10,4 @@ taken_apart [] kind h e = absurd (omega arith)
 taken_apart (byte ∷ body) kind h e = ap (λ k. reading_as k body) e
 
 pub returns : goal.returns
-returns c = c.read-body.ensures ∙ simp take_rest (taken_apart c.args.rest.now c.in-Some.kind (omega (arith, ltb-false)) c.in-Some.ensures)
+returns c = c.read_body.ensures ∙ simp take_rest (taken_apart c.args.rest.now c.in-Some.kind (omega (arith, ltb-false)) c.in-Some.ensures)

@@ -10,7 +10,7 @@ pub loop-i-preserved : goal.loop-i-preserved
 loop-i-preserved c =
     let start = 256 * c.from-start.result in
     let bytes = c.args.bytes.now in
-    ap (λ m. stored m (start + (c.loop-i.i + 1)) (drop (c.loop-i.i + 1) bytes)) c.store-byte.ensures
+    ap (λ m. stored m (start + (c.loop-i.i + 1)) (drop (c.loop-i.i + 1) bytes)) c.store_byte.ensures
     ∙ stored_more (vec_items c.loop-i.memory) start c.loop-i.i bytes c.loop-i-test.true
     ∙ c.loop-i.invariant
 

@@ -10,10 +10,10 @@ use Rattle.session.proofs.play.list.Goals as goal
 pub returns-in-Ok : goal.returns-in-Ok
 returns-in-Ok c =
     let all = sym (ap (ending (view c.args.loader)) c.in-Ok.is) in
-    let m = c.into-machine-board.ensures in
+    let m = c.into_machine-board.ensures in
     let back = (λ i. flat_memory (m.cells i) (m.rest i)) ∙ sym (memory_back (vec_items c.args.loader.memory) c.args.loader.fixed_below) in
     record {
       fault = ap (λ p. p.fault) all;
-      memory = c.into-memory.ensures ∙ back ∙ ap (λ p. p.memory) all;
-      listing = puts_text (ap (λ core. sheet core.registers) m.core ∙ ap (λ p. p.text) all) c.put-sheet-written.ensures;
+      memory = c.into_memory.ensures ∙ back ∙ ap (λ p. p.memory) all;
+      listing = puts_text (ap (λ core. sheet core.registers) m.core ∙ ap (λ p. p.text) all) c.put_sheet-written.ensures;
     }

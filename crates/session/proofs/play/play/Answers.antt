@@ -13,7 +13,7 @@ pub returns : goal.returns
 returns c =
     let l = c.list.ensures in
     let all = plays_as (length c.args.listing.now) c.args.session.now (vec_items c.args.memory) _ _ _
-    (omega arith) (omega arith) c.new-loader.ensures c.load-all-answer.ensures.after c.load-all-answer.ensures.answer in
+    (omega arith) (omega arith) c.new-loader.ensures c.load_all-answer.ensures.after c.load_all-answer.ensures.answer in
     record {
       fault = l.fault ∙ ap (λ p. p.fault) all;
       memory = l.memory ∙ ap (λ p. p.memory) all;

@@ -4,8 +4,8 @@ use Rattle.lines.specs.Sets.{with_line}
 use Rattle.lines.proofs.Digits.{in_lt, inserted}
 use Rattle.lines.proofs.set.Lines.insert.Goals as goal
 
-pub invariant-of-self : goal.invariant-of-self
-invariant-of-self c = (in_lt c.args.self.now.bits c.args.self.now.ok c.number.result c.number.ensures.bound, tt)
+pub invariant_of-self : goal.invariant_of-self
+invariant_of-self c = record { ok = in_lt c.args.self.now.bits c.args.self.now.ok c.number.result c.number.ensures.bound }
 
 pub returns : goal.returns
 unfolding lines_of

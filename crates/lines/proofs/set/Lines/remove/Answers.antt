@@ -4,8 +4,8 @@ use Rattle.lines.specs.Sets.{without}
 use Rattle.lines.proofs.Digits.{out_lt, removed}
 use Rattle.lines.proofs.set.Lines.remove.Goals as goal
 
-pub invariant-of-self : goal.invariant-of-self
-invariant-of-self c = (out_lt c.args.self.now.bits c.args.self.now.ok _, tt)
+pub invariant_of-self : goal.invariant_of-self
+invariant_of-self c = record { ok = out_lt c.args.self.now.bits c.args.self.now.ok _ }
 
 pub returns : goal.returns
 unfolding lines_of

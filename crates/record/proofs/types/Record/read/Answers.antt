@@ -4,9 +4,9 @@ use Rattle.record.specs.Wire.{said, reading, found_at}
 use Rattle.record.proofs.Laws.{reads_at, rewrites}
 use Rattle.record.proofs.types.Record.read.Goals as goal
 
-pub page-at-page-requires : goal.page-at-page-requires
-page-at-page-requires c =
-    let p = reads_at c.args.session.now _ c.args.offset _ _ (λ i. omega (arith, c.type-inv.session i)) c.split-at.ensures.back c.in-ok-value.ensures in
+pub page_at-page-requires : goal.page_at-page-requires
+page_at-page-requires c =
+    let p = reads_at c.args.session.now _ c.args.offset _ _ (λ i. omega (arith, c.type_inv.session i)) c.split_at.ensures.back c.in_ok-value.ensures in
     omega (arith, p.size, p.inside, length-drop c.args.offset c.args.session.now)
 
 pub returns-then-offset-session : goal.returns-then-offset-session
@@ -18,11 +18,11 @@ returns-then-offset-session c = record {
 
 pub returns : goal.returns
 returns c =
-    let rest = c.split-at.ensures.back in
-    let p = reads_at c.args.session.now _ c.args.offset _ _ (λ i. omega (arith, c.type-inv.session i)) rest c.in-ok-value.ensures in
+    let rest = c.split_at.ensures.back in
+    let p = reads_at c.args.session.now _ c.args.offset _ _ (λ i. omega (arith, c.type_inv.session i)) rest c.in_ok-value.ensures in
     record {
-      answer = (λ i. Ok (said c.in-ok-value.value, c.args.offset + 1, c.page-at-page.ensures i, c.in-ok-value.length))
-          ∙ ap (found_at c.args.offset) (c.in-ok-value.ensures ∙ ap reading rest);
+      answer = (λ i. Ok (said c.in_ok-value.value, c.args.offset + 1, c.page_at-page.ensures i, c.in_ok-value.length))
+          ∙ ap (found_at c.args.offset) (c.in_ok-value.ensures ∙ ap reading rest);
       inside = (p.some, omega (arith, p.inside, length-drop c.args.offset c.args.session.now));
       rewrites = rewrites _ _ _ p;
     }

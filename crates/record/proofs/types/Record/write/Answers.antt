@@ -6,7 +6,7 @@ use Rattle.record.proofs.types.Record.write.Goals as goal
 
 pub returns : goal.returns
 returns c =
-    let w = c.write-at-start.ensures in
+    let w = c.write_at_start.ensures in
     let r = said c.args.self.now in
     let old = c.args.buffer.now in
     record {

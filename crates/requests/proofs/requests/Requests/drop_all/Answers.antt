@@ -11,9 +11,9 @@ loop-number-init c = none_yet (λ _. dropping) (requests_of c.args.self.now)
 
 pub loop-number-preserved : goal.loop-number-preserved
 loop-number-preserved c =
-    elim c.match-from-number.branch [
-      | in-Some w ↦ next (λ _. dropping) _ _ _ _ _ (ap requests_of w.self-is ∙ w.drop-one.ensures) w.in-Some.ensures.back.0 c.loop-number.invariant
-      | in-default w ↦ absurd (omega (arith, w.in-default.ensures.back))
+    elim c.match-from_number.branch [
+      | in-Some w ↦ next (λ _. dropping) _ _ _ _ _ (ap requests_of w.self-is ∙ w.drop_one.ensures) w.in-Some.ensures.back.0 c.loop-number.invariant
+      | in-default w ↦ absurd (omega (arith, w.in_default.ensures.back))
     ]
 
 pub returns : goal.returns

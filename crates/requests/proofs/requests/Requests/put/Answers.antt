@@ -4,15 +4,15 @@ use Rattle.requests.specs.Of.{requests_of}
 use Rattle.requests.proofs.Places.{inserted, removed, placed, placed_whole}
 use Rattle.requests.proofs.requests.Requests.put.Goals as goal
 
-pub invariant-of-self : goal.invariant-of-self
-invariant-of-self c =
+pub invariant_of-self : goal.invariant_of-self
+invariant_of-self c =
     let same : c.from.result ≡ number_of c.args.line = c.from.ensures ∙ c.number.ensures.value in
     let inside : c.from.result < length c.args.self.now.tallies = omega arith in
     let marked = inserted _ _ _ _ c.insert.ensures c.if-waiting.true in
     (placed_whole _ _ _ _ _ c.args.tally _ same inside marked c.args.self.now.whole c.requires, tt)
 
-pub invariant-of-self-else-waiting : goal.invariant-of-self-else-waiting
-invariant-of-self-else-waiting c =
+pub invariant_of-self-else-waiting : goal.invariant_of-self-else-waiting
+invariant_of-self-else-waiting c =
     let same : c.from.result ≡ number_of c.args.line = c.from.ensures ∙ c.number.ensures.value in
     let inside : c.from.result < length c.args.self.now.tallies = omega arith in
     let marked = removed _ _ _ _ c.remove.ensures c.if-waiting.false in

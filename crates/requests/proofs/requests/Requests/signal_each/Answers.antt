@@ -19,7 +19,7 @@ loop-number-preserved c =
     let n = c.loop-number.number in
     let now = requests_of c.loop-number.self in
     let step = next (λ k. when (rising k) signalled) (requests_of c.args.self.now) n in
-    elim c.match-from-number.branch [
+    elim c.match-from_number.branch [
       | in-Some+then-has w ↦
           let m = number_of w.in-Some.line in
           let here : m ≡ n = w.in-Some.ensures.back.0 in
@@ -30,7 +30,7 @@ loop-number-preserved c =
           let here : m ≡ n = w.in-Some.ensures.back.0 in
           let off : rising n ≡ false = sym (w.if-has.ensures ∙ ap rising here) in
           step m now _ (ap requests_of w.self-is ∙ left_alone (when (rising n) signalled) m now (ap (λ b. when b signalled (now m)) off)) here c.loop-number.invariant
-      | in-default w ↦ absurd (omega (arith, w.in-default.ensures.back))
+      | in-default w ↦ absurd (omega (arith, w.in_default.ensures.back))
     ]
 
 pub returns : goal.returns

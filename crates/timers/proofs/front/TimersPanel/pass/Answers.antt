@@ -14,7 +14,7 @@ returns g c =
     let behind = p.standing start.behind in
     record {
       after = both_passed timing_owns timing_rules p.rules own behind n
-          (c.pass-lines.ensures.after ∙ ap (passed timing_rules own) c.states-of.ensures.value) c.pass-behind.ensures.after;
+          (c.pass-lines.ensures.after ∙ ap (passed timing_rules own) c.states_of.ensures.value) c.pass-behind.ensures.after;
       lines = both_rose timing_owns timing_rules p.rules own behind n
-          (c.pass-lines.ensures.lines ∙ ap (rose timing_rules own) c.states-of.ensures.value) c.pass-behind.ensures.lines c.join.ensures;
+          (c.pass-lines.ensures.lines ∙ ap (rose timing_rules own) c.states_of.ensures.value) c.pass-behind.ensures.lines c.join.ensures;
     }

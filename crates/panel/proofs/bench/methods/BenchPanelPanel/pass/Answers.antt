@@ -14,10 +14,10 @@ returns c =
     let n : ℕ = min c.args.states 59 in
     let bytes : ℕ → ℕ = λ code. get_or p.bytes code 0 in
     let ok : p.clock ≤ last_number = omega arith in
-    let until : c.clock-after-until.result ≡ min (p.clock + n) last_number =
-    c.clock-after-until.ensures ∙ ap (λ m. min (p.clock + m) last_number) c.states-of.ensures.value in
+    let until : c.clock_after-until.result ≡ min (p.clock + n) last_number =
+    c.clock_after-until.ensures ∙ ap (λ m. min (p.clock + m) last_number) c.states_of.ensures.value in
     record {
       after = (λ i. record { bytes = bytes; clock = until i; due = scheduled ds }) ∙ sym (passed_by bytes p.clock ds ok n);
-      lines = c.due-by-lines.ensures.lines ∙ (λ i. up_to (drop p.next (c.as-slice.ensures.value i)) (until i))
+      lines = c.due_by-lines.ensures.lines ∙ (λ i. up_to (drop p.next (c.as_slice.ensures.value i)) (until i))
           ∙ sym (rose_by bytes p.clock ds ok n ∙ fun_ext (λ line. due_from ds p.next p.clock (min (p.clock + n) last_number) line p.gone p.coming));
     }
