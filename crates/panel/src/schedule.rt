@@ -17,7 +17,7 @@ pub(crate) fn in_order(mut schedule: Vec<Due>) -> Vec<Due>
     ensures order { InOrder result.items }
     ensures same { scheduled result.items ≡ scheduled schedule.items }
 {
-    schedule.sort();
+    schedule.sort_unstable();
     schedule
 }
 

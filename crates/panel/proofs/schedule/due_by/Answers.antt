@@ -5,7 +5,7 @@ use Rattle.lines.specs.Of.{lines_of}
 use Rattle.panel.specs.Places.{Coming, up_to, no_record}
 use Rattle.panel.proofs.Records.{search_ended}
 use Rattle.panel.proofs.schedule.due_by.Goals as goal
-use Rattle.panel.proofs.schedule.due_by.Goals.{in-Some, in-default}
+use Rattle.panel.proofs.schedule.due_by.Goals.{in-Some, in_default}
 
 pub loop-next-preserved : goal.loop-next-preserved
 loop-next-preserved c =
@@ -16,7 +16,7 @@ loop-next-preserved c =
           elim c.match-from_number.branch [
             | in-Some w ↦ let l = ap (λ x. lines_of x k) w.lines-is in let e = ap (λ f. f k) w.insert.ensures in
                 let n = w.in-Some.ensures.back in grind (arith, nat_tests)
-            | in-default w ↦ let l = ap (λ x. lines_of x k) w.lines-is in let n = w.in_default.ensures.back in grind (arith, nat_tests)
+            | in_default w ↦ let l = ap (λ x. lines_of x k) w.lines-is in let n = w.in_default.ensures.back in grind (arith, nat_tests)
           ],
     )
 

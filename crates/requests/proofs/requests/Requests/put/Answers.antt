@@ -9,14 +9,14 @@ invariant_of-self c =
     let same : c.from.result ≡ number_of c.args.line = c.from.ensures ∙ c.number.ensures.value in
     let inside : c.from.result < length c.args.self.now.tallies = omega arith in
     let marked = inserted _ _ _ _ c.insert.ensures c.if-waiting.true in
-    (placed_whole _ _ _ _ _ c.args.tally _ same inside marked c.args.self.now.whole c.requires, tt)
+    record { whole = placed_whole _ _ _ _ _ c.args.tally _ same inside marked c.args.self.now.whole c.requires }
 
 pub invariant_of-self-else-waiting : goal.invariant_of-self-else-waiting
 invariant_of-self-else-waiting c =
     let same : c.from.result ≡ number_of c.args.line = c.from.ensures ∙ c.number.ensures.value in
     let inside : c.from.result < length c.args.self.now.tallies = omega arith in
     let marked = removed _ _ _ _ c.remove.ensures c.if-waiting.false in
-    (placed_whole _ _ _ _ _ c.args.tally _ same inside marked c.args.self.now.whole c.requires, tt)
+    record { whole = placed_whole _ _ _ _ _ c.args.tally _ same inside marked c.args.self.now.whole c.requires }
 
 pub returns-then-waiting : goal.returns-then-waiting
 unfolding requests_of

@@ -8,7 +8,7 @@ use Rattle.requests.specs.Request.{signalled, when}
 use Rattle.requests.proofs.Counts.{up_to, none_yet, next, all_done}
 use Rattle.requests.proofs.Places.{left_alone}
 use Rattle.requests.proofs.requests.Requests.signal_each.Goals as goal
-use Rattle.requests.proofs.requests.Requests.signal_each.Goals.{in-Some+then-has, in-Some+else-has, in-default}
+use Rattle.requests.proofs.requests.Requests.signal_each.Goals.{in-Some+then-has, in-Some+else-has, in_default}
 
 pub loop-number-init : goal.loop-number-init
 loop-number-init c = none_yet (λ k. when (lines_of c.args.lines k) signalled) (requests_of c.args.self.now)
@@ -30,7 +30,7 @@ loop-number-preserved c =
           let here : m ≡ n = w.in-Some.ensures.back.0 in
           let off : rising n ≡ false = sym (w.if-has.ensures ∙ ap rising here) in
           step m now _ (ap requests_of w.self-is ∙ left_alone (when (rising n) signalled) m now (ap (λ b. when b signalled (now m)) off)) here c.loop-number.invariant
-      | in-default w ↦ absurd (omega (arith, w.in_default.ensures.back))
+      | in_default w ↦ absurd (omega (arith, w.in_default.ensures.back))
     ]
 
 pub returns : goal.returns
