@@ -20,7 +20,7 @@ pub enum Call {
 }
 
 fn make<P: Panel>(panel: &mut P, call: Call)
-    ensures { standing panel.new ≡ called rules (standing panel.old) call }
+    ensures { P.Panel.standing panel.new ≡ called P.Panel.rules (P.Panel.standing panel.old) call }
 {
     match call {
         Call::Put { code, byte } => panel.put(code, byte),
@@ -32,7 +32,7 @@ fn make<P: Panel>(panel: &mut P, call: Call)
 }
 
 fn drive<P: Panel>(panel: &mut P, calls: &[Call])
-    ensures { standing panel.new ≡ driven rules (standing panel.old) calls.now }
+    ensures { P.Panel.standing panel.new ≡ driven P.Panel.rules (P.Panel.standing panel.old) calls.now }
 {
     for call in calls {
         make(panel, *call);

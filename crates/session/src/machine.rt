@@ -34,7 +34,7 @@ impl Loader {
             memory,
             ..
         } = self;
-        let schedule = Vec::new(memory.allocator());
+        let schedule = Vec::new(*memory.allocator());
         Machine {
             core: core.into_core(),
             board: FlatBoard::new(memory, u32::from(fixed_below)),

@@ -3,7 +3,7 @@ ghost use Rattle.std.specs.Prelude.{◌≡◌, ◌+◌, min};
 ghost use Rattle.panel.specs.Bench.{Bench, bench_rules, bench_start, last_number};
 ghost use Rattle.panel.specs.BenchOf.{bench_of};
 ghost use Rattle.panel.specs.Schedule.{scheduled};
-ghost use Rattle.std.proofs.Common.{rules, arith};
+ghost use Rattle.std.proofs.Common.{rules};
 
 use super::BenchPanel;
 use crate::Panel;
@@ -43,7 +43,7 @@ impl Panel for BenchPanel {
 
     ghost standing = { bench_of };
 
-    ghost only_lines = { first_of (Prim.search rules, Prim.grind (arith, Self.row.coded.inj)) };
+    ghost only_lines = { Prim.search rules };
 
     fn show(&self, code: u8) -> u8 {
         self.bytes[usize::from(code_of(code))]

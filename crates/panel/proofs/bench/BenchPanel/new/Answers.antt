@@ -13,13 +13,11 @@ due_by-requires c = record {
 pub invariant_of-result : goal.invariant_of-result
 invariant_of-result c =
     let next = c.due_by.new.next in
-    let is = c.as_slice.ensures.value in (
-      c.in_order-schedule.ensures.order,
-      (
-        subst (λ (ds : List Due). Gone ds next 0) is c.due_by.ensures.gone,
-        (subst (λ (ds : List Due). Coming ds next 0) is c.due_by.ensures.coming, tt),
-      ),
-    )
+    let is = c.as_slice.ensures.value in record {
+      order = c.in_order-schedule.ensures.order;
+      gone = subst (λ (ds : List Due). Gone ds next 0) is c.due_by.ensures.gone;
+      coming = subst (λ (ds : List Due). Coming ds next 0) is c.due_by.ensures.coming;
+    }
 
 pub returns : goal.returns
 returns c = λ i. record { bytes = λ k. zeroes 64 k i; clock = 0; due = c.in_order-schedule.ensures.same i }
