@@ -14,7 +14,7 @@ use crate::operations::{
 use crate::shifts::{rotate_left, rotate_right, shift_ea, shift_register, shift_register_and_skip};
 use alu::{Operation, Shift};
 use board::Board;
-use isa::Arithmetic;
+use machine::Arithmetic;
 use operands::{of_rp2, of_rp3, step_down, step_up};
 use registers::bank::ByteRegister;
 use registers::file::Registers;

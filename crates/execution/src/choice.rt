@@ -10,7 +10,7 @@ use arithmetic::compute;
 use board::Board;
 use isa::Instruction;
 use jumps::direct;
-use machine::Machine;
+use machine::{Family, Machine, sort};
 use panel::Panel;
 use registers::bench::Core;
 use registers::flags::Flags;
@@ -23,7 +23,7 @@ pub fn execute<B: Board, P: Panel>(machine: &mut Machine<B, P>, instruction: Ins
 {
     let before = machine.core.registers.flags;
     begin(&mut machine.core, instruction.length());
-    perform(machine, instruction, before);
+    perform(machine, sort(instruction), before);
 }
 
 fn begin(core: &mut Core, length: u8)
@@ -37,25 +37,20 @@ fn begin(core: &mut Core, length: u8)
     core.after_ei = false;
 }
 
-fn perform<B: Board, P: Panel>(machine: &mut Machine<B, P>, instruction: Instruction, before: Flags)
-    ensures after { model_of B.Board.cells P.Panel.standing machine.new ≡ performed P.Panel.rules before instruction (model_of B.Board.cells P.Panel.standing machine.old) }
+fn perform<B: Board, P: Panel>(machine: &mut Machine<B, P>, family: Family, before: Flags)
+    ensures after { model_of B.Board.cells P.Panel.standing machine.new ≡ performed P.Panel.rules before family (model_of B.Board.cells P.Panel.standing machine.old) }
     ensures keeps { B.Board.rest machine.new.board ≡ B.Board.rest machine.old.board }
 {
-    match instruction {
-        Instruction::Transfer(i) => transfer(
-            &mut machine.core.registers,
-            &mut machine.board,
-            i,
-            before,
-        ),
-        Instruction::Arithmetic(i) => compute(&mut machine.core.registers, &mut machine.board, i),
-        Instruction::Jump(i) => direct(&mut machine.core.registers, &mut machine.board, i, before),
-        Instruction::Special(i) => handle_special(
+    match family {
+        Family::Transfer(i) => transfer(&mut machine.core.registers, &mut machine.board, i, before),
+        Family::Arithmetic(i) => compute(&mut machine.core.registers, &mut machine.board, i),
+        Family::Jump(i) => direct(&mut machine.core.registers, &mut machine.board, i, before),
+        Family::Special(i) => handle_special(
             &mut machine.core,
             &machine.board,
             &mut machine.panel,
             i,
         ),
-        Instruction::Control(i) => control(machine, i),
+        Family::Control(i) => control(machine, i),
     }
 }

@@ -5,9 +5,9 @@ ghost use Rattle.machine.specs.Instructions.{controlled};
 ghost use Rattle.machine.specs.Of.{model_of};
 
 use board::Board;
-use isa::{Control, Flag};
+use isa::Flag;
 use lines::Line;
-use machine::Machine;
+use machine::{Control, Machine};
 use operands::{data_byte, working_address};
 use panel::Panel;
 use registers::bench::Core;

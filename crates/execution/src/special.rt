@@ -7,7 +7,7 @@ ghost use Rattle.machine.specs.Instructions.{specially};
 
 use alu::{Operation, operate_byte};
 use board::Board;
-use isa::Special;
+use machine::Special;
 use operands::data_byte;
 use panel::Panel;
 use registers::bench::Core;

@@ -9,8 +9,7 @@ use crate::targets::{
     return_from_interrupt,
 };
 use board::Board;
-use isa::Jump;
-use machine::WordRegister;
+use machine::{Jump, WordRegister};
 use registers::file::Registers;
 use registers::flags::Flags;
 

@@ -14,7 +14,7 @@ use crate::words::{
     store_ea, store_word,
 };
 use board::Board;
-use isa::Transfer;
+use machine::Transfer;
 use operands::{of_rp2, of_rp3};
 use registers::file::Registers;
 use registers::flags::Flags;

@@ -12,7 +12,7 @@ is_blank = refl
 pub returns : goal.returns
 returns c =
     let p = c.play_listed-written.ensures.listing in
-    let m : vec_items c.in_ok-memory.memory ≡ blank = c.in_ok-memory.ensures.items-if-clones-equal (λ y e. e) ∙ is_blank in
+    let m : vec_items c.in_ok-memory.memory ≡ blank = c.in_ok-memory.ensures.items_if_clones_equal (λ y e. e) ∙ is_blank in
     let whole : c.play_listed-written.result.written - 0 ≡ c.play_listed-written.result.written = omega arith in
     let text = ap (λ n. take n c.play_listed-written.new.listing) whole ∙ front p ∙ ap (λ memory. (listed 2048 c.args.session.now memory).text) m in
-    IfOk-weaker c.from_slice.result _ _ (λ v h. h.0 ∙ text) c.from_slice.ensures.made
+    IfOk-weaker c.from_slice.result _ _ (λ v h. h ∙ text) c.from_slice.ensures.items
