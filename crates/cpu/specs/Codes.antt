@@ -1,9 +1,9 @@
 -- The code that stands at an address.
 use Rattle.std.specs.Prelude.{ℕ, Bool}
 use Rattle.board.specs.Cells.{Cells}
-use Rattle.decoder.specs.declared.decoding.Undefined.{Undefined}
-use Rattle.decoder.specs.declared.decoding.Undefined.TheVariants.{First, Second}
-use Rattle.decoder.specs.Decoding.{Decoded, decoded}
+use Rattle.isa.specs.declared.decoding.Undefined.{Undefined}
+use Rattle.isa.specs.declared.decoding.Undefined.TheVariants.{First, Second}
+use Rattle.isa.specs.Decoding.{Decoded, decoded}
 use Rattle.machine.specs.Words.{past}
 use Rattle.machine.specs.Model.{Model}
 use Rattle.cpu.specs.declared.codes.UndefinedCode.{UndefinedCode}

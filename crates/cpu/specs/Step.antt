@@ -10,7 +10,7 @@ use Rattle.requests.specs.Request.{Request, entering}
 use Rattle.requests.specs.All.{at_line, signalled_all}
 use Rattle.panel.specs.Rules.{Rules, states_of, passed, rose}
 use Rattle.isa.specs.Costs.{cost_of}
-use Rattle.decoder.specs.Decoding.{Decoded}
+use Rattle.isa.specs.Decoding.{Decoded}
 use Rattle.machine.specs.Words.{past, back}
 use Rattle.machine.specs.Registers.{with_pc, with_sp, with_flags, with_skip, plain}
 use Rattle.machine.specs.Model.{Model, on_core}

@@ -3,8 +3,7 @@ ghost use Rattle.std.specs.Prelude.{◌≡◌};
 ghost use Rattle.cpu.specs.Codes.{code_at, undefined_at};
 
 use board::Board;
-use decoder::{Undefined, decode};
-use isa::Instruction;
+use isa::{Instruction, Undefined, decode};
 
 /// An undefined code: where it stands, and its two bytes. The second is 00 if the first alone is undefined.
 #[derive(Clone, Copy, PartialEq, Eq, Debug)]

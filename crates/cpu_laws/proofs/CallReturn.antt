@@ -2,14 +2,13 @@
 use Rattle.std.proofs.Common.{◌≡◌, ℕ, ◌<◌, true, false, arith}
 use Rattle.panel.specs.Rules.{Rules}
 use Rattle.isa.specs.Costs.{cost_of}
-use Rattle.isa.specs.declared.instructions.Instruction.TheVariants as family
-use Rattle.isa.specs.declared.instructions.Jump.{Jump}
-use Rattle.isa.specs.declared.instructions.Jump.TheVariants.{Jmp, Jb, Jr, JreForward, JreBackward, Jea, Call, Calb, Calf, Calt, Softi, Ret, Rets, Reti}
+use Rattle.machine.specs.declared.families.Jump.{Jump}
+use Rattle.machine.specs.declared.families.Jump.TheVariants.{Jmp, Jb, Jr, JreForward, JreBackward, Jea, Call, Calb, Calf, Calt, Softi, Ret, Rets, Reti}
 use Rattle.machine.specs.Words.{past, back, word_at, pushed}
 use Rattle.machine.specs.Registers.{with_pc, with_sp}
 use Rattle.machine.specs.Model.{Model}
 use Rattle.cpu_laws.specs.Widths.{Fitting}
-use Rattle.cpu_laws.specs.Runs.{called_and_returned}
+use Rattle.cpu_laws.specs.Runs.{jump_instruction, called_and_returned}
 use Rattle.cpu_laws.specs.Laws.{gone_on, Open, CallReturns}
 use Rattle.cpu_laws.proofs.Stack.{pushed_word}
 
@@ -34,10 +33,10 @@ call_returns rules (Jr n) m fits is first second = not_so is
 call_returns rules JreForward m fits is first second = not_so is
 call_returns rules JreBackward m fits is first second = not_so is
 call_returns rules Jea m fits is first second = not_so is
-call_returns rules Call m fits is first second = returned_from (cost_of (family.Jump Call)).bytes m fits.sp first second
-call_returns rules Calb m fits is first second = returned_from (cost_of (family.Jump Calb)).bytes m fits.sp first second
-call_returns rules (Calf n) m fits is first second = returned_from (cost_of (family.Jump (Calf n))).bytes m fits.sp first second
-call_returns rules (Calt n) m fits is first second = returned_from (cost_of (family.Jump (Calt n))).bytes m fits.sp first second
+call_returns rules Call m fits is first second = returned_from (cost_of (jump_instruction Call)).bytes m fits.sp first second
+call_returns rules Calb m fits is first second = returned_from (cost_of (jump_instruction Calb)).bytes m fits.sp first second
+call_returns rules (Calf n) m fits is first second = returned_from (cost_of (jump_instruction (Calf n))).bytes m fits.sp first second
+call_returns rules (Calt n) m fits is first second = returned_from (cost_of (jump_instruction (Calt n))).bytes m fits.sp first second
 call_returns rules Softi m fits is first second = not_so is
 call_returns rules Ret m fits is first second = not_so is
 call_returns rules Rets m fits is first second = not_so is

@@ -4,8 +4,7 @@ use Rattle.registers.specs.Psw.{psw, flags_of}
 use Rattle.registers.proofs.Inverse.{flags_again}
 use Rattle.lines.specs.declared.level.Level.{Level}
 use Rattle.panel.specs.Rules.{Rules}
-use Rattle.isa.specs.declared.instructions.Instruction.TheVariants as family
-use Rattle.isa.specs.declared.instructions.Jump.TheVariants.{Reti}
+use Rattle.isa.specs.declared.instructions.Instruction.TheVariants.{Reti}
 use Rattle.machine.specs.Words.{past, back}
 use Rattle.machine.specs.Registers.{with_pc, with_sp, with_flags}
 use Rattle.machine.specs.Model.{Model}
@@ -40,6 +39,6 @@ module _ {S : Type 0} (rules : Rules S) where
   if_stopped (counts n made) m code e = let z : ◌≡◌ {A = ℕ} 0 1 = cc in absurd (omega arith)
   if_stopped (stops c) m code e = refl
 
-  pub if_counted : (o : Outcome S) (m : Model S) (n : ℕ) → answer o ≡ Ok n → executed rules (family.Jump Reti) (after rules o m) ≡ stepped_and_returned rules o m
+  pub if_counted : (o : Outcome S) (m : Model S) (n : ℕ) → answer o ≡ Ok n → executed rules Reti (after rules o m) ≡ stepped_and_returned rules o m
   if_counted (counts k made) m n e = refl
   if_counted (stops c) m n e = let z : ◌≡◌ {A = ℕ} 0 1 = cc in absurd (omega arith)

@@ -2,7 +2,7 @@
 use Rattle.std.proofs.Common.{sym, refl, subst}
 use Rattle.panel.specs.Rules.{Rules}
 use Rattle.machine.specs.Model.{Model}
-use Rattle.decoder.specs.Decoding.{Decoded}
+use Rattle.isa.specs.Decoding.{Decoded}
 use Rattle.cpu.specs.Step.{Choice, skipping, done, outcome, after}
 use Rattle.cpu_laws.specs.Laws.{PassedOver, SkipPasses}
 

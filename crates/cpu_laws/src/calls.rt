@@ -1,15 +1,36 @@
 // A call, and the return behind it.
 ghost use Rattle.std.specs.Prelude.{◌≡◌};
 ghost use Rattle.machine.specs.Of.{model_of};
-ghost use Rattle.cpu_laws.specs.Runs.{called_and_returned};
+ghost use Rattle.cpu_laws.specs.Runs.{jump_instruction, called_and_returned};
 ghost use Rattle.cpu_laws.specs.Laws.{CallReturns};
 
 use crate::widths::measure;
 use board::Board;
 use execution::execute;
-use isa::{Instruction, Jump};
-use machine::Machine;
+use isa::Instruction;
+use machine::{Jump, Machine};
 use panel::Panel;
+
+fn instruction(jump: Jump) -> Instruction
+    ensures { result ≡ jump_instruction jump }
+{
+    match jump {
+        Jump::Jmp => Instruction::Jmp,
+        Jump::Jb => Instruction::Jb,
+        Jump::Jr(n) => Instruction::Jr(n),
+        Jump::JreForward => Instruction::JreForward,
+        Jump::JreBackward => Instruction::JreBackward,
+        Jump::Jea => Instruction::Jea,
+        Jump::Call => Instruction::Call,
+        Jump::Calb => Instruction::Calb,
+        Jump::Calf(n) => Instruction::Calf(n),
+        Jump::Calt(n) => Instruction::Calt(n),
+        Jump::Softi => Instruction::Softi,
+        Jump::Ret => Instruction::Ret,
+        Jump::Rets => Instruction::Rets,
+        Jump::Reti => Instruction::Reti,
+    }
+}
 
 /// Executes a call, or any other jump, and then RET.
 pub fn call_and_return<B: Board, P: Panel>(machine: &mut Machine<B, P>, call: Jump)
@@ -18,6 +39,6 @@ pub fn call_and_return<B: Board, P: Panel>(machine: &mut Machine<B, P>, call: Ju
     ensures keeps { B.Board.rest machine.new.board ≡ B.Board.rest machine.old.board }
 {
     measure(&machine.core.registers);
-    execute(machine, Instruction::Jump(call));
-    execute(machine, Instruction::Jump(Jump::Ret));
+    execute(machine, instruction(call));
+    execute(machine, Instruction::Ret);
 }

@@ -9,7 +9,7 @@ use crate::widths::measure;
 use board::Board;
 use cpu::{UndefinedCode, step};
 use execution::execute;
-use isa::{Instruction, Jump};
+use isa::Instruction;
 use machine::Machine;
 use panel::Panel;
 
@@ -24,6 +24,6 @@ pub fn enter_and_return<B: Board, P: Panel>(
 {
     measure(&machine.core.registers);
     let states = step(machine)?;
-    execute(machine, Instruction::Jump(Jump::Reti));
+    execute(machine, Instruction::Reti);
     Ok(states)
 }

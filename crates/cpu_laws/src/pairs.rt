@@ -7,7 +7,7 @@ ghost use Rattle.cpu_laws.specs.Laws.{PopRestores};
 use crate::widths::measure;
 use board::Board;
 use execution::execute;
-use isa::{Instruction, Rp1, Transfer};
+use isa::{Instruction, Rp1};
 use machine::Machine;
 use panel::Panel;
 
@@ -18,6 +18,6 @@ pub fn push_and_pop<B: Board, P: Panel>(machine: &mut Machine<B, P>, pair: Rp1)
     ensures keeps { B.Board.rest machine.new.board ≡ B.Board.rest machine.old.board }
 {
     measure(&machine.core.registers);
-    execute(machine, Instruction::Transfer(Transfer::Push(pair)));
-    execute(machine, Instruction::Transfer(Transfer::Pop(pair)));
+    execute(machine, Instruction::Push(pair));
+    execute(machine, Instruction::Pop(pair));
 }

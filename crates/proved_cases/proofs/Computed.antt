@@ -3,8 +3,8 @@ use Rattle.std.proofs.Common.{refl}
 use Rattle.lines.specs.Sets.{bit}
 use Rattle.board.specs.Cells.{written}
 use Rattle.panel.specs.Rules.{Rules}
-use Rattle.decoder.specs.Codes.{register_at, operation_at}
-use Rattle.decoder.specs.Decoding.{behind_60, behind_64, behind_74}
+use Rattle.isa.specs.Codes.{register_at, operation_at}
+use Rattle.isa.specs.Decoding.{behind_60, behind_64, behind_74}
 use Rattle.cpu.specs.Codes.{code_at}
 use Rattle.proved_cases.specs.Cases.{Worked}
 

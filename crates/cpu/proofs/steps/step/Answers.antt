@@ -1,6 +1,7 @@
-use Rattle.std.proofs.Common.{◌≡◌, sym, ap, ◌∙◌, rules}
+use Rattle.std.proofs.Common.{◌≡◌, sym, ap, ◌∙◌, Err, subst}
+use Rattle.std.proofs.lemmas.Result.{err_from_is_err_and}
 use Rattle.machine.specs.Of.{model_of}
-use Rattle.cpu.specs.Step.{outcome, elapsed}
+use Rattle.cpu.specs.Step.{Counted, outcome, elapsed}
 use Rattle.cpu.proofs.Outcomes.{if_stopped, if_counted}
 use Rattle.cpu.proofs.steps.step.Goals as goal
 
@@ -9,10 +10,11 @@ returns-in_err-states g c =
     let rules = g.P.Panel.rules in
     let m = model_of g.B.Board.cells g.P.Panel.standing c.args.machine.now in
     let known = c.in_err-states.ensures in
+    let p = err_from_is_err_and c.from_residual.result c.from_residual.ensures.1 in
     record {
       after = known.after ∙ if_stopped rules (outcome rules m) m c.in_err-states.field-0.0 (sym known.answer);
-      answer = search rules;
-      counted = search rules;
+      answer = p.1 ∙ ap Err p.2 ∙ known.answer;
+      counted = subst Counted (sym p.1) tt;
       keeps = known.keeps;
     }
 

@@ -1,6 +1,6 @@
-use Rattle.std.proofs.Common.{◌≡◌, sym, ap, ◌∙◌, subst, rules}
-use Rattle.isa.specs.declared.instructions.Instruction.TheVariants as family
-use Rattle.isa.specs.declared.instructions.Jump.TheVariants.{Reti}
+use Rattle.std.proofs.Common.{◌≡◌, sym, ap, ◌∙◌, subst, Err}
+use Rattle.std.proofs.lemmas.Result.{err_from_is_err_and}
+use Rattle.isa.specs.declared.instructions.Instruction.TheVariants.{Reti}
 use Rattle.machine.specs.Of.{model_of}
 use Rattle.machine.specs.Model.{Model}
 use Rattle.machine.specs.Instructions.{executed}
@@ -18,9 +18,10 @@ returns-in_err-states g c =
     let e = model_of g.B.Board.cells g.P.Panel.standing c.step.new.machine in
     let known = c.in_err-states.ensures in
     let done : e ≡ stepped_and_returned rules (outcome rules m) m = known.after ∙ if_stopped rules (outcome rules m) m c.in_err-states.field-0.0 (sym known.answer) in
+    let p = err_from_is_err_and c.from_residual.result c.from_residual.ensures.1 in
     record {
       after = done;
-      answer = search rules;
+      answer = p.1 ∙ ap Err p.2 ∙ known.answer;
       returns = subst (λ (x : Model S). EntryReturns m x) (sym done) (entry_returns rules m c.measure.ensures);
       keeps = known.keeps;
     }
@@ -33,7 +34,7 @@ returns g c =
     let e = model_of g.B.Board.cells g.P.Panel.standing c.execute.new.machine in
     let known = c.in_ok-states.ensures in
     let done : e ≡ stepped_and_returned rules (outcome rules m) m =
-    c.execute.ensures.after ∙ (ap (executed rules (family.Jump Reti)) known.after ∙ if_counted rules (outcome rules m) m c.in_ok-states.states (sym known.answer)) in
+    c.execute.ensures.after ∙ (ap (executed rules Reti) known.after ∙ if_counted rules (outcome rules m) m c.in_ok-states.states (sym known.answer)) in
     record {
       after = done;
       answer = known.answer;

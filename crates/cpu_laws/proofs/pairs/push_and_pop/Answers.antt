@@ -1,6 +1,5 @@
 use Rattle.std.proofs.Common.{◌≡◌, sym, ap, ◌∙◌, subst}
-use Rattle.isa.specs.declared.instructions.Instruction.TheVariants as family
-use Rattle.isa.specs.declared.instructions.Transfer.TheVariants.{Pop}
+use Rattle.isa.specs.declared.instructions.Instruction.TheVariants.{Pop}
 use Rattle.machine.specs.Of.{model_of}
 use Rattle.machine.specs.Model.{Model}
 use Rattle.machine.specs.Instructions.{executed}
@@ -16,7 +15,7 @@ returns g c =
     let pair = c.args.pair in
     let m = model_of g.B.Board.cells g.P.Panel.standing c.args.machine.now in
     let e = model_of g.B.Board.cells g.P.Panel.standing c.execute-2.new.machine in
-    let done : e ≡ pushed_and_popped rules pair m = c.execute-2.ensures.after ∙ ap (executed rules (family.Transfer (Pop pair))) c.execute.ensures.after in
+    let done : e ≡ pushed_and_popped rules pair m = c.execute-2.ensures.after ∙ ap (executed rules (Pop pair)) c.execute.ensures.after in
     record {
       after = done;
       restores = subst (λ (x : Model S). PopRestores m x) (sym done) (pop_restores rules pair m c.measure.ensures);
