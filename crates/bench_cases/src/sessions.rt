@@ -140,6 +140,6 @@ fn a_short_memory_takes_what_it_reaches(rt: HostRuntime) -> Result<(), Fail> {
     let session = [1, 0, 0, 0x22, 1, 1, 0, 0x33, 1, 0xff, 0xff, 0x44, 8];
     let (outcome, _) = played(rt.alloc(), &session, 1, 2048)?;
     assert!(rt; outcome.fault.is_none());
-    assert_eq!(rt; outcome.memory.as_slice(), &[0x22]);
+    assert_eq!(rt; outcome.memory.as_slice(), [0x22_u8].as_slice());
     Ok(())
 }
