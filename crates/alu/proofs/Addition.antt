@@ -1,8 +1,8 @@
 -- Decimal adjust after an addition is decimal addition. Assumes nothing.
-use Rattle.std.proofs.Common.{◌≡◌, ℕ, ◌+◌, ◌*◌, ◌/◌, ◌%◌, ◌<◌, ◌≤◌, Bool, true, false, leb, arith}
+use Rattle.std.proofs.Common.{◌≡◌, ℕ, ◌+◌, ◌*◌, ◌/◌, ◌%◌, ◌≤◌, Bool, true, false, leb, arith}
 use Rattle.std.proofs.lemmas.Bool.Decides.{nat_tests}
 use Rattle.registers.specs.Psw.{one}
-use Rattle.alu.specs.Decimal.{correction, corrected, packed, Totals, DecimalAddition}
+use Rattle.alu.specs.Decimal.{correction, corrected, Totals, DecimalAddition}
 
 -- a sum of high digits i and of low digits j, the carry among them
 adjusts : (i j sum lows total : ℕ) → i ≤ 18 → j ≤ 19 → sum ≡ 16 * i + j → lows ≡ j → total ≡ 10 * i + j

@@ -1,5 +1,5 @@
 -- The flat board: a memory from address 0 up, fixed below a number F.
-use Rattle.std.specs.Prelude.{ℕ, min, Bool, true, cond, List, ◌++◌, map, length, drop, nat_lt, slice_index}
+use Rattle.std.specs.Prelude.{ℕ, min, true, cond, List, ◌++◌, map, length, drop, nat_lt, slice_index}
 use Rattle.std.specs.List.{range_with_len}
 use Rattle.board.specs.Cells.{Cells}
 

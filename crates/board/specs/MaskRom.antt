@@ -1,5 +1,5 @@
 -- The mask-ROM board: 4,096 bytes of ROM at most from address 0, 256 bytes of RAM at the top.
-use Rattle.std.specs.Prelude.{ℕ, ◌-◌, min, Bool, true, false, cond, List, length, nat_lt, slice_index}
+use Rattle.std.specs.Prelude.{ℕ, ◌-◌, min, true, false, cond, List, length, nat_lt, slice_index}
 use Rattle.board.specs.Cells.{Cells}
 
 -- how many addresses a ROM image fills

@@ -1,5 +1,5 @@
 -- The code that stands at an address.
-use Rattle.std.specs.Prelude.{ℕ, Bool}
+use Rattle.std.specs.Prelude.{ℕ}
 use Rattle.board.specs.Cells.{Cells}
 use Rattle.isa.specs.declared.decoding.Undefined.{Undefined}
 use Rattle.isa.specs.declared.decoding.Undefined.TheVariants.{First, Second}

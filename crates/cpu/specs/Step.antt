@@ -1,5 +1,5 @@
 -- One step: the first of entry, idle, skip and execution that fits; then its states pass.
-use Rattle.std.specs.Prelude.{ℕ, ◌≤◌, Bool, true, false, cond, Some, None, Ok, Err, Option, Result}
+use Rattle.std.specs.Prelude.{ℕ, ◌≤◌, false, cond, Some, None, Ok, Err, Option, Result}
 use Rattle.registers.specs.declared.bench.Core.{Core}
 use Rattle.registers.specs.Psw.{psw}
 use Rattle.lines.specs.declared.level.Level.{Level}

@@ -1,5 +1,5 @@
 -- Decoding: what each first byte means, and behind a prefix each second byte.
-use Rattle.std.specs.Prelude.{ℕ, ◌+◌, ◌*◌, ◌/◌, ◌%◌, Bool, cond, not, ◌&&◌, ◌||◌, Ok, Err, Result, ◌==◌, nat_le, nat_lt}
+use Rattle.std.specs.Prelude.{ℕ, ◌+◌, ◌*◌, ◌/◌, ◌%◌, cond, not, ◌&&◌, ◌||◌, Ok, Err, Result, ◌==◌, nat_le, nat_lt}
 use Rattle.isa.specs.Special.{within, readable, writable, both_ways}
 use Rattle.isa.specs.Codes.{flag_at, line_coded, operation_at, r1_at, r2_at, register_at, rp_at, rp1_at, rp2_at, rp3_at, rpa2_at, rpa3_at}
 use Rattle.isa.specs.declared.operands.Rp2.TheVariants as rp2

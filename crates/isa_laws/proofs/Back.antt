@@ -1,9 +1,9 @@
 -- The opcode of each instruction decodes to it.
-use Rattle.std.proofs.Common.{◌≡◌, ℕ, ◌+◌, ◌*◌, ◌/◌, ◌%◌, ◌<◌, ◌≤◌, Bool, true, false, cond, eqb, ltb, ◌⊎◌, Some, None, Ok, Err, Option, sym, refl, ap, ◌∙◌, inl, inr, arith}
+use Rattle.std.proofs.Common.{◌≡◌, ℕ, ◌+◌, ◌*◌, ◌/◌, ◌%◌, ◌≤◌, Bool, true, false, cond, ltb, Some, None, Ok, Option, refl, inl, inr, arith}
 use Rattle.std.proofs.lemmas.Bool.{cases_lt, true≢false}
 use Rattle.std.proofs.lemmas.Bool.Decides.{nat_tests}
 use Rattle.isa.specs.Special.{readable, writable, both_ways}
-use Rattle.isa.specs.Codes.{register_at, r1_at, r2_at, rp_at, rp1_at, rp2_at, rp3_at, rpa2_at, rpa3_at, flag_at, operation_at, line_coded, register_code, r1_code, r2_code, rp_code, rp1_code, rp2_code, rp3_code, rpa2_code, rpa3_code, flag_code, operation_code}
+use Rattle.isa.specs.Codes.{register_at, r1_at, r2_at, rp_at, rp1_at, rp2_at, rp3_at, rpa2_at, rpa3_at, flag_at, operation_at, line_coded, operation_code}
 use Rattle.isa.specs.Decoding.{Decoded, decoded, behind_48, behind_4c, behind_4d, behind_60, behind_64, behind_70, behind_74}
 use Rattle.isa.specs.Encoding.{encoded, one, two}
 use Rattle.isa.specs.declared.encoding.Opcode.{Opcode}

@@ -1,5 +1,5 @@
 -- The laws, each by one test over the whole table of codes, which antt computes.
-use Rattle.std.proofs.Common.{◌≡◌, ℕ, zero, suc, ◌<◌, ◌≤◌, Bool, true, false, cond, not, ◌&&◌, T, eqb, ◌⊎◌, Some, None, Ok, Err, Option, sym, refl, ap, ◌∙◌, subst, inl, inr, arith}
+use Rattle.std.proofs.Common.{◌≡◌, ℕ, zero, suc, ◌<◌, Bool, true, false, cond, not, ◌&&◌, eqb, Some, None, Ok, Err, Option, sym, refl, ap, ◌∙◌, inl, inr, arith}
 use Rattle.std.proofs.lemmas.Bool.{not-true, and_parts, eqb-true, false≢true, cases_eq}
 use Rattle.isa.specs.Codes.{register_at, r1_at, r2_at, rp_at, rp1_at, rp2_at, rp3_at, rpa2_at, rpa3_at, flag_at, operation_at, line_coded}
 use Rattle.isa.specs.Decoding.{Decoded, decoded, behind_48, behind_4c, behind_4d, behind_60, behind_64, behind_70, behind_74}
@@ -9,7 +9,7 @@ use Rattle.isa.specs.declared.encoding.Opcode.TheVariants.{One, Two}
 use Rattle.isa.specs.declared.decoding.Undefined.TheVariants.{First, Second}
 use Rattle.isa.specs.declared.instructions.Instruction.{Instruction}
 use Rattle.isa_laws.specs.Laws.{prefix, Alone, Deciding, counted, begins, Inverse}
-use Rattle.isa.proofs.Rows.{row, agree}
+use Rattle.isa.proofs.Rows.{agree}
 use Rattle.isa_laws.proofs.Back.{reached, wanted, back}
 
 -- a test passes at each number below a bound

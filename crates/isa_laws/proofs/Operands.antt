@@ -1,5 +1,5 @@
 -- Two functions of an operand agree if they agree at each code, which antt computes.
-use Rattle.std.proofs.Common.{◌≡◌, ℕ, ◌+◌, ◌<◌, ◌≤◌, List, sym, refl, ap, ◌∙◌, zero-le, arith, lit<}
+use Rattle.std.proofs.Common.{◌≡◌, ℕ, ◌<◌, sym, refl, ap, ◌∙◌, arith, lit<}
 use Rattle.alu.specs.declared.operation.Operation.{Operation}
 use Rattle.alu.specs.declared.operation.Operation.TheVariants as operation
 use Rattle.lines.specs.Numbers.{number_of}

@@ -1,8 +1,7 @@
 -- Arithmetic: what each instruction makes of the registers, of a cell or of a special register.
-use Rattle.std.specs.Prelude.{Bool, true, false, cond, ℕ}
+use Rattle.std.specs.Prelude.{cond, ℕ}
 use Rattle.registers.specs.declared.bank.ByteRegister.{ByteRegister}
 use Rattle.registers.specs.declared.bank.ByteRegister.TheVariants.{A}
-use Rattle.registers.specs.declared.flags.Flags.{Flags}
 use Rattle.registers.specs.declared.file.Registers.{Registers}
 use Rattle.board.specs.Cells.{Cells, written}
 use Rattle.panel.specs.Rules.{Rules}
@@ -12,7 +11,7 @@ use Rattle.alu.specs.declared.width.Width.TheVariants.{Byte, Word}
 use Rattle.alu.specs.Naming.{storing}
 use Rattle.alu.specs.Sums.{Formed, marked}
 use Rattle.alu.specs.Operations.{operated, flagged}
-use Rattle.alu.specs.Counting.{counted_up, counted_down, counted, negated}
+use Rattle.alu.specs.Counting.{counted, negated}
 use Rattle.alu.specs.Products.{product, quotient, remainder}
 use Rattle.alu.specs.Decimal.{adjusted}
 use Rattle.alu.specs.Digits.{digits, high, low}
@@ -21,7 +20,7 @@ use Rattle.isa.specs.declared.operands.Rpa2.{Rpa2}
 use Rattle.machine.specs.declared.words.WordRegister.{WordRegister}
 use Rattle.machine.specs.declared.words.WordRegister.TheVariants as word
 use Rattle.machine.specs.Words.{past, back}
-use Rattle.machine.specs.Registers.{with_ea, with_a, with_byte, byte_in, with_flags, with_carry}
+use Rattle.machine.specs.Registers.{with_ea, with_a, with_byte, byte_in, with_flags}
 use Rattle.machine.specs.Operands.{word_in, with_word, last_byte, byte_before, working, rpa2_place, rpa2_used}
 use Rattle.machine.specs.Model.{Reach, reach, Ports, ports, core_with}
 use Rattle.machine.specs.Transfer.{special, special_put}

@@ -24,7 +24,7 @@ use Rattle.isa.specs.declared.operands.Rpa3.TheVariants as rpa3
 use Rattle.machine.specs.declared.words.WordRegister.{WordRegister}
 use Rattle.machine.specs.declared.words.WordRegister.TheVariants.{Va, Bc, De, Hl, Ea, Sp}
 use Rattle.machine.specs.Words.{past, back, word, high, low}
-use Rattle.machine.specs.Registers.{with_ea, with_sp, with_byte, byte_in}
+use Rattle.machine.specs.Registers.{with_ea, with_sp, with_byte}
 
 -- r1: its value, and the registers with it replaced
 abbrev pub r1_in : R1 → Registers → ℕ

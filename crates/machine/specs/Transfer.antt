@@ -1,5 +1,5 @@
 -- Transfers: what each makes of the registers, of memory or of the special registers.
-use Rattle.std.specs.Prelude.{Bool, true, false, cond, ℕ, ◌+◌, ◌%◌, eqb}
+use Rattle.std.specs.Prelude.{true, false, cond, ℕ, ◌+◌, ◌%◌, eqb}
 use Rattle.registers.specs.declared.bank.Bank.{Bank}
 use Rattle.registers.specs.declared.bank.ByteRegister.{ByteRegister}
 use Rattle.registers.specs.declared.bank.ByteRegister.TheVariants.{V, A, B, C, D, E, H, L}

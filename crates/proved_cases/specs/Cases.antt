@@ -1,6 +1,5 @@
 -- Worked cases of a step, as statements about the rules, for any rules of a panel.
-use Rattle.std.specs.Prelude.{◌≡◌, ℕ, ◌+◌, ◌-◌, Bool, true, false, cond, List, [], ◌∷◌, Ok, Err, Result, ◌==◌, nat_lt, slice_index}
-use Rattle.registers.specs.declared.file.Registers.{Registers}
+use Rattle.std.specs.Prelude.{◌≡◌, ℕ, ◌-◌, true, false, cond, List, [], ◌∷◌, Ok, Err, Result, ◌==◌, nat_lt, slice_index}
 use Rattle.registers.specs.declared.bench.Core.{Core}
 use Rattle.registers.specs.Bench.{bench_core, zero_registers}
 use Rattle.board.specs.Cells.{Cells}

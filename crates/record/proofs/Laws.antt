@@ -1,14 +1,14 @@
 -- Reading and writing are inverse. Assumes nothing.
-use Rattle.std.proofs.Common.{◌≡◌, ℕ, suc, ◌+◌, ◌*◌, ◌/◌, ◌%◌, ◌<◌, ◌≤◌, Bool, true, false, cond, eqb, ltb, ◌⊎◌, List, [], ◌∷◌, ◌++◌, length, get_or, take, drop, Some, None, Ok, Err, Option, Result, sym, refl, ap, ◌∙◌, subst, inl, inr, one-add, arith}
+use Rattle.std.proofs.Common.{◌≡◌, ℕ, suc, ◌+◌, ◌*◌, ◌/◌, ◌%◌, ◌<◌, ◌≤◌, Bool, true, false, cond, ltb, List, [], ◌∷◌, ◌++◌, length, get_or, take, drop, Some, None, Ok, Err, Option, Result, sym, refl, ap, ◌∙◌, subst, one-add, arith}
 use Rattle.std.proofs.lemmas.List.{get_or-drop, length-append, take_at, length-take-le}
-use Rattle.std.proofs.lemmas.Bool.{ltb-false, eqb-true, eq-eqb, cases_eq}
+use Rattle.std.proofs.lemmas.Bool.{ltb-false, eqb-true, eq-eqb}
 use Rattle.std.proofs.lemmas.Bool.Decides.{nat_tests}
 use Rattle.record.specs.declared.kind.Kind.{Kind}
 use Rattle.record.specs.declared.kind.Kind.TheVariants.{Cell as CELL, Page as PAGE, Fix as FIX, Set as SET, Grant as GRANT, Signal as SIGNAL, Reset as RESET, End as END}
 use Rattle.record.specs.declared.fault.RecordFault.{RecordFault}
-use Rattle.record.specs.declared.fault.RecordFault.TheVariants.{UnknownKind, CutShort, NoRoom}
+use Rattle.record.specs.declared.fault.RecordFault.TheVariants.{CutShort, NoRoom}
 use Rattle.record.specs.Law.{Fits, reread, Rewrites}
-use Rattle.record.specs.Wire.{Said, cell, page, fix, set, grant, signal, reset, end, wire, whole, kind_of, body_length, number, meant, reading, reading_as, write_answer, write_over}
+use Rattle.record.specs.Wire.{Said, cell, page, fix, set, grant, signal, reset, end, wire, whole, kind_of, body_length, meant, reading, reading_as, write_answer, write_over}
 
 -- every element is a byte
 abbrev pub Bytes : List ℕ → Type 0

@@ -1,5 +1,5 @@
 -- The lines of a set of marks and a list of tallies.
-use Rattle.std.specs.Prelude.{ℕ, Bool, List, slice_index_or}
+use Rattle.std.specs.Prelude.{ℕ, List, slice_index_or}
 use Rattle.lines.specs.declared.set.Lines.{Lines}
 use Rattle.lines.specs.Of.{lines_of}
 use Rattle.requests.specs.declared.tally.Tally.{Tally}

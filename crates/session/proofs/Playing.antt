@@ -4,7 +4,7 @@ use Rattle.std.proofs.lemmas.Bool.{le-ltb}
 use Rattle.session.specs.declared.fault.SessionFault.{SessionFault}
 use Rattle.session.specs.declared.fault.SessionFault.TheVariants.{ListingShort, SessionLong}
 use Rattle.session.specs.Load.{Loaded, fresh, load_all}
-use Rattle.session.specs.Play.{Played, ending, ended_by, refused, played}
+use Rattle.session.specs.Play.{ending, ended_by, refused, played}
 
 accepted : (room : ℕ) (session memory : List ℕ) → 2048 ≤ room → length session ≤ 16384 → ended_by (load_all (fresh memory) session) ≡ played room session memory
 accepted room session memory h l =

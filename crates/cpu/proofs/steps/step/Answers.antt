@@ -1,4 +1,4 @@
-use Rattle.std.proofs.Common.{◌≡◌, sym, ap, ◌∙◌, Err, subst}
+use Rattle.std.proofs.Common.{sym, ap, ◌∙◌, Err, subst}
 use Rattle.std.proofs.lemmas.Result.{err_from_is_err_and}
 use Rattle.machine.specs.Of.{model_of}
 use Rattle.cpu.specs.Step.{Counted, outcome, elapsed}

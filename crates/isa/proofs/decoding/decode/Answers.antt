@@ -1,4 +1,4 @@
-use Rattle.std.proofs.Common.{◌≡◌, ℕ, ◌+◌, ◌*◌, ◌/◌, ◌%◌, ◌<◌, Bool, true, cond, ltb, Ok, Err, sym, refl, ap, ◌∙◌, arith, rules}
+use Rattle.std.proofs.Common.{◌≡◌, ℕ, ◌%◌, ◌<◌, Bool, cond, Ok, sym, refl, ap, ◌∙◌, rules}
 use Rattle.std.proofs.lemmas.Bool.{lt-ltb}
 use Rattle.isa.specs.declared.instructions.Instruction.TheVariants.{MovToR1, MovFromR1, MovLoad, MovStore, Mvi, Mvix, Stax, Ldax, DmovFromEa, DmovToEa, Push, Pop, Eadd, Esub, Mul, Div, Inr, Dcr, Rll, Rlr, Sll, Slr, Sllc, Slrc, Jr, Calf, Calt, Bit, Sk, Skn, Skit, Sknit}
 use Rattle.isa.specs.Codes.{flag_at, line_coded, r1_at, r2_at, register_at, rp1_at, rp3_at, rpa2_at}

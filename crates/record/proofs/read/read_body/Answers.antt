@@ -1,4 +1,4 @@
-use Rattle.std.proofs.Common.{◌≡◌, Some, sym, ap, ◌∙◌}
+use Rattle.std.proofs.Common.{Some, sym, ap, ◌∙◌}
 use Rattle.record.specs.Wire.{reading_as}
 use Rattle.record.proofs.read.read_body.Goals as goal
 

@@ -1,4 +1,4 @@
-use Rattle.std.proofs.Common.{◌≡◌, ℕ, ◌<◌, List, [], ◌∷◌, length, get_or, drop, Some, sym, ap, ◌∙◌, arith, ltb-false}
+use Rattle.std.proofs.Common.{◌≡◌, ℕ, ◌<◌, List, [], ◌∷◌, length, get_or, drop, Some, ap, ◌∙◌, arith, ltb-false}
 use Rattle.std.proofs.lemmas.List.{take_rest}
 use Rattle.record.specs.declared.kind.Kind.{Kind}
 use Rattle.record.specs.Wire.{kind_of, reading, reading_as}

@@ -1,4 +1,4 @@
-use Rattle.std.proofs.Common.{◌≡◌, ◌+◌, ◌*◌, drop, vec_items, sym, ap, ◌∙◌, add-zero}
+use Rattle.std.proofs.Common.{◌+◌, ◌*◌, drop, vec_items, sym, ap, ◌∙◌, add-zero}
 use Rattle.session.specs.Load.{stored}
 use Rattle.session.proofs.Loading.{stored_more, stored_all}
 use Rattle.session.proofs.load.store_page.Goals as goal

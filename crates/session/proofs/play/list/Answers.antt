@@ -1,4 +1,4 @@
-use Rattle.std.proofs.Common.{◌≡◌, vec_items, sym, ap, ◌∙◌}
+use Rattle.std.proofs.Common.{vec_items, sym, ap, ◌∙◌}
 use Rattle.board.specs.Flat.{flat_memory}
 use Rattle.board.proofs.Memory.{memory_back}
 use Rattle.session.specs.Load.{view}

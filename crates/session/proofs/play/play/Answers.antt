@@ -1,4 +1,4 @@
-use Rattle.std.proofs.Common.{◌≡◌, length, vec_items, ap, ◌∙◌, arith, rules}
+use Rattle.std.proofs.Common.{length, vec_items, ap, ◌∙◌, arith, rules}
 use Rattle.session.proofs.Playing.{plays_as}
 use Rattle.session.proofs.Putting.{puts_none, puts_text}
 use Rattle.session.proofs.play.play.Goals as goal

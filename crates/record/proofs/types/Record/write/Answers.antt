@@ -1,4 +1,4 @@
-use Rattle.std.proofs.Common.{◌≡◌, sym, ap, ◌∙◌}
+use Rattle.std.proofs.Common.{sym, ap, ◌∙◌}
 use Rattle.record.specs.Law.{reread}
 use Rattle.record.specs.Wire.{said, reading}
 use Rattle.record.proofs.Laws.{rereads}

@@ -1,5 +1,4 @@
-use Rattle.std.proofs.Common.{◌≡◌, ap, ◌∙◌, rules}
-use Rattle.registers.specs.Psw.{psw}
+use Rattle.std.proofs.Common.{rules}
 use Rattle.registers.proofs.Inverse.{byte_again}
 use Rattle.registers.proofs.flags.Flags.from_byte.Goals as goal
 

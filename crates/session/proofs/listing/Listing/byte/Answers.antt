@@ -1,5 +1,4 @@
-use Rattle.std.proofs.Common.{◌≡◌, ◌/◌, ◌%◌, [], ◌∷◌, ◌++◌}
-use Rattle.session.specs.Text.{hex2}
+use Rattle.std.proofs.Common.{[], ◌∷◌, ◌++◌}
 use Rattle.session.proofs.Putting.{◌▸◌, reworded}
 use Rattle.session.proofs.listing.Listing.byte.Goals as goal
 

@@ -1,4 +1,4 @@
-use Rattle.std.proofs.Common.{◌≡◌, ◌++◌, codes, decimal, ap}
+use Rattle.std.proofs.Common.{◌++◌, codes, decimal, ap}
 use Rattle.session.proofs.Putting.{◌▸◌, reworded}
 use Rattle.session.proofs.listing.Listing.fault.Goals as goal
 

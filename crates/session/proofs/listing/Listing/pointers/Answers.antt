@@ -1,4 +1,4 @@
-use Rattle.std.proofs.Common.{◌≡◌, ◌++◌, codes, ap}
+use Rattle.std.proofs.Common.{◌++◌, codes, ap}
 use Rattle.session.specs.Text.{hex2}
 use Rattle.session.proofs.Putting.{◌▸◌, reworded}
 use Rattle.session.proofs.listing.Listing.pointers.Goals as goal

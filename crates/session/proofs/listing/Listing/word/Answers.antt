@@ -1,4 +1,4 @@
-use Rattle.std.proofs.Common.{◌≡◌, ◌/◌, ◌%◌, ◌++◌, sym}
+use Rattle.std.proofs.Common.{◌/◌, ◌%◌}
 use Rattle.std.proofs.lemmas.List.{append_assoc}
 use Rattle.session.specs.Text.{hex2}
 use Rattle.session.proofs.Putting.{◌▸◌, reworded}
