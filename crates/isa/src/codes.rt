@@ -2,7 +2,7 @@
 ghost use Rattle.std.specs.Prelude.{◌≡◌, ◌<◌};
 ghost use Rattle.isa.specs.Codes.{register_at, r1_at, r2_at, rp_at, rp1_at, rp2_at, rp3_at, rpa2_at, rpa3_at, flag_at, operation_at, line_coded};
 ghost use Rattle.isa.specs.Codes.{register_code, r1_code, r2_code, rp_code, rp1_code, rp2_code, rp3_code, rpa2_code, rpa3_code, flag_code, operation_code};
-ghost use Rattle.isa.specs.Special.{readable as can_read, writable as can_write_lem, both_ways};
+ghost use Rattle.isa.specs.Special.{readable as can_read, writable as can_write, both_ways};
 
 use crate::operands::{Flag, R1, R2, Rp, Rp1, Rp2, Rp3, Rpa2, Rpa3};
 use alu::Operation;
@@ -181,7 +181,7 @@ pub(crate) fn readable(code: u8) -> bool
 
 // sr: whether it can be written from A.
 pub(crate) fn writable(code: u8) -> bool
-    ensures { result ≡ can_write_lem code }
+    ensures { result ≡ can_write code }
 {
     match code {
         0x00..=0x03 | 0x05..=0x0D | 0x10..=0x14 | 0x17..=0x18 | 0x1A..=0x1B | 0x28 => true,

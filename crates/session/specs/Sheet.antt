@@ -27,4 +27,4 @@ sheet r = pointer_line r ++ bank_line r.main ++ meter_line 0 0 0 0
 
 -- F and, in decimal, the fault's number, its record and the offset of that record's kind byte
 abbrev pub fault_line : ℕ → ℕ → ℕ → List ℕ
-fault_line number record-number offset = codes "F " ++ decimal number ++ (codes " " ++ decimal record-number) ++ (codes " " ++ decimal offset) ++ codes "\n"
+fault_line number record_number offset = codes "F " ++ decimal number ++ (codes " " ++ decimal record_number) ++ (codes " " ++ decimal offset) ++ codes "\n"
