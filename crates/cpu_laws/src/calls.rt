@@ -1,6 +1,8 @@
 // A call, and the return behind it.
 ghost use Rattle.std.specs.Prelude.{◌≡◌};
 ghost use Rattle.machine.specs.Of.{model_of};
+ghost use Rattle.machine.specs.Families.{family_of};
+ghost use Rattle.machine.specs.declared.families.Family.TheVariants as family;
 ghost use Rattle.cpu_laws.specs.Runs.{jump_instruction, called_and_returned};
 ghost use Rattle.cpu_laws.specs.Laws.{CallReturns};
 
@@ -12,7 +14,8 @@ use machine::{Jump, Machine};
 use panel::Panel;
 
 fn instruction(jump: Jump) -> Instruction
-    ensures { result ≡ jump_instruction jump }
+    ensures value { result ≡ jump_instruction jump }
+    ensures family { family_of result ≡ family.Jump jump }
 {
     match jump {
         Jump::Jmp => Instruction::Jmp,

@@ -10,7 +10,7 @@ use arithmetic::compute;
 use board::Board;
 use isa::Instruction;
 use jumps::direct;
-use machine::{Family, Machine, sort};
+use machine::{Family, Machine, classify};
 use panel::Panel;
 use registers::bench::Core;
 use registers::flags::Flags;
@@ -23,7 +23,7 @@ pub fn execute<B: Board, P: Panel>(machine: &mut Machine<B, P>, instruction: Ins
 {
     let before = machine.core.registers.flags;
     begin(&mut machine.core, instruction.length());
-    perform(machine, sort(instruction), before);
+    perform(machine, classify(instruction), before);
 }
 
 fn begin(core: &mut Core, length: u8)

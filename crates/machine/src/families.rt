@@ -214,7 +214,7 @@ pub enum Control {
 }
 
 /// The family that an instruction is of.
-pub fn sort(instruction: Instruction) -> Family
+pub fn classify(instruction: Instruction) -> Family
     ensures { result ≡ family_of instruction }
 {
     match instruction {

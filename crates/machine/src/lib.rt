@@ -5,6 +5,6 @@ mod families;
 mod parts;
 mod words;
 
-pub use families::{Arithmetic, Control, Family, Jump, Special, Transfer, sort};
+pub use families::{Arithmetic, Control, Family, Jump, Special, Transfer, classify};
 pub use parts::Machine;
 pub use words::WordRegister;

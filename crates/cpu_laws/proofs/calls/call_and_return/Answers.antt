@@ -15,7 +15,7 @@ returns g c =
     let call = c.args.call in
     let m = model_of g.B.Board.cells g.P.Panel.standing c.args.machine.now in
     let e = model_of g.B.Board.cells g.P.Panel.standing c.execute-2.new.machine in
-    let done : e ≡ called_and_returned rules call m = c.execute-2.ensures.after ∙ ap (executed rules Ret) (c.execute.ensures.after ∙ ap (λ i. executed rules i m) c.instruction.ensures) in
+    let done : e ≡ called_and_returned rules call m = c.execute-2.ensures.after ∙ ap (executed rules Ret) (c.execute.ensures.after ∙ ap (λ i. executed rules i m) c.instruction.ensures.value) in
     record {
       after = done;
       returns = subst (λ (x : Model S). CallReturns call m x) (sym done) (call_returns rules call m c.measure.ensures);
