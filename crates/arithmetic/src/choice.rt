@@ -15,7 +15,7 @@ use crate::shifts::{rotate_left, rotate_right, shift_ea, shift_register, shift_r
 use alu::{Operation, Shift};
 use board::Board;
 use machine::Arithmetic;
-use operands::{of_rp2, of_rp3, step_down, step_up};
+use operands::{step_down, step_up};
 use registers::bank::ByteRegister;
 use registers::file::Registers;
 
@@ -39,7 +39,7 @@ pub fn compute<B: Board>(registers: &mut Registers, board: &mut B, instruction: 
         Arithmetic::OperateRByte(operation, r) => operate_immediate(registers, board, operation, r),
         Arithmetic::OperateW(operation) => operate_working(registers, board, operation),
         Arithmetic::OperateWByte(operation) => operate_working_cell(registers, board, operation),
-        Arithmetic::OperateEa(operation, rp3) => operate_ea(registers, operation, of_rp3(rp3)),
+        Arithmetic::OperateEa(operation, rp3) => operate_ea(registers, operation, rp3.into()),
         Arithmetic::Eadd(r2) => operate_ea_byte(registers, Operation::Add, of_r2(r2)),
         Arithmetic::Esub(r2) => operate_ea_byte(registers, Operation::Sub, of_r2(r2)),
         Arithmetic::Mul(r2) => multiply_by(registers, of_r2(r2)),
@@ -48,8 +48,8 @@ pub fn compute<B: Board>(registers: &mut Registers, board: &mut B, instruction: 
         Arithmetic::Dcr(r2) => decrement_register(registers, of_r2(r2)),
         Arithmetic::Inrw => increment_working(registers, board),
         Arithmetic::Dcrw => decrement_working(registers, board),
-        Arithmetic::Inx(rp2) => step_up(registers, of_rp2(rp2), 1),
-        Arithmetic::Dcx(rp2) => step_down(registers, of_rp2(rp2)),
+        Arithmetic::Inx(rp2) => step_up(registers, rp2.into(), 1),
+        Arithmetic::Dcx(rp2) => step_down(registers, rp2.into()),
         Arithmetic::Daa => adjust_a(registers),
         Arithmetic::Stc => registers.flags.carry = true,
         Arithmetic::Clc => registers.flags.carry = false,

@@ -9,4 +9,4 @@ pub use memory::{
     data_byte, first_data_byte, push_status, push_word, read_data_word, read_word, working_address,
 };
 pub use places::{rpa2_address, step_down, step_up, use_rpa2};
-pub use words::{get_word, of_rp2, of_rp3, set_word};
+pub use words::{get_word, set_word};

@@ -1,32 +1,9 @@
 // Words in registers: pairs, EA and SP.
 ghost use Rattle.std.specs.Prelude.{◌≡◌};
-ghost use Rattle.machine.specs.Operands.{word_in, with_word, rp2_word, rp3_word};
+ghost use Rattle.machine.specs.Operands.{word_in, with_word};
 
-use isa::{Rp2, Rp3};
 use machine::WordRegister;
 use registers::file::Registers;
-
-pub fn of_rp2(rp2: Rp2) -> WordRegister
-    ensures { result ≡ rp2_word rp2 }
-{
-    match rp2 {
-        Rp2::Sp => WordRegister::Sp,
-        Rp2::Bc => WordRegister::Bc,
-        Rp2::De => WordRegister::De,
-        Rp2::Hl => WordRegister::Hl,
-        Rp2::Ea => WordRegister::Ea,
-    }
-}
-
-pub fn of_rp3(rp3: Rp3) -> WordRegister
-    ensures { result ≡ rp3_word rp3 }
-{
-    match rp3 {
-        Rp3::Bc => WordRegister::Bc,
-        Rp3::De => WordRegister::De,
-        Rp3::Hl => WordRegister::Hl,
-    }
-}
 
 pub fn get_word(registers: &Registers, which: WordRegister) -> u16
     ensures { result ≡ word_in which registers.now }

@@ -8,14 +8,12 @@ use crate::bytes::{
     store_direct, store_indirect, store_indirect_immediate, store_working, store_working_immediate,
 };
 use crate::exchange::{exchange_b_to_l, exchange_h_l, exchange_v_a_ea};
-use crate::named::{of_rp, of_rp1};
 use crate::words::{
     load_ea, load_from_table, load_word, load_word_immediate, move_from_ea, move_to_ea, pop, push,
     store_ea, store_word,
 };
 use board::Board;
 use machine::Transfer;
-use operands::{of_rp2, of_rp3};
 use registers::file::Registers;
 use registers::flags::Flags;
 
@@ -36,7 +34,7 @@ pub fn transfer<B: Board>(
         Transfer::MovStore(r) => store_direct(registers, board, r),
         Transfer::Mvi(r) => load_immediate(registers, board, r, before),
         Transfer::Mviw => store_working_immediate(registers, board),
-        Transfer::Mvix(rp3) => store_indirect_immediate(registers, board, of_rp3(rp3)),
+        Transfer::Mvix(rp3) => store_indirect_immediate(registers, board, rp3.into()),
         Transfer::Staw => store_working(registers, board),
         Transfer::Ldaw => load_working(registers, board),
         Transfer::Stax(place) => store_indirect(registers, board, place),
@@ -45,15 +43,15 @@ pub fn transfer<B: Board>(
         Transfer::Exa => exchange_v_a_ea(registers),
         Transfer::Exh => exchange_h_l(registers),
         Transfer::Block => move_block(registers, board),
-        Transfer::DmovFromEa(rp3) => move_from_ea(registers, of_rp3(rp3)),
-        Transfer::DmovToEa(rp3) => move_to_ea(registers, of_rp3(rp3)),
-        Transfer::StoreRp(rp) => store_word(registers, board, of_rp(rp)),
-        Transfer::LoadRp(rp) => load_word(registers, board, of_rp(rp)),
+        Transfer::DmovFromEa(rp3) => move_from_ea(registers, rp3.into()),
+        Transfer::DmovToEa(rp3) => move_to_ea(registers, rp3.into()),
+        Transfer::StoreRp(rp) => store_word(registers, board, rp.into()),
+        Transfer::LoadRp(rp) => load_word(registers, board, rp.into()),
         Transfer::Steax(place) => store_ea(registers, board, place),
         Transfer::Ldeax(place) => load_ea(registers, board, place),
-        Transfer::Push(rp1) => push(registers, board, of_rp1(rp1)),
-        Transfer::Pop(rp1) => pop(registers, board, of_rp1(rp1)),
-        Transfer::Lxi(rp2) => load_word_immediate(registers, board, of_rp2(rp2), before),
+        Transfer::Push(rp1) => push(registers, board, rp1.into()),
+        Transfer::Pop(rp1) => pop(registers, board, rp1.into()),
+        Transfer::Lxi(rp2) => load_word_immediate(registers, board, rp2.into(), before),
         Transfer::Table => load_from_table(registers, board),
     }
 }

@@ -1,9 +1,8 @@
-// The registers that r1, rp and rp1 name.
+// The registers that r1 names.
 ghost use Rattle.std.specs.Prelude.{◌≡◌};
-ghost use Rattle.machine.specs.Operands.{r1_in, with_r1, rp_word, rp1_word};
+ghost use Rattle.machine.specs.Operands.{r1_in, with_r1};
 
-use isa::{R1, Rp, Rp1};
-use machine::WordRegister;
+use isa::R1;
 use registers::file::Registers;
 
 pub(crate) fn get_r1(registers: &Registers, r1: R1) -> u8
@@ -35,28 +34,5 @@ pub(crate) fn set_r1(registers: &mut Registers, r1: R1, byte: u8)
         R1::E => registers.main.e = byte,
         R1::H => registers.main.h = byte,
         R1::L => registers.main.l = byte,
-    }
-}
-
-pub(crate) fn of_rp(rp: Rp) -> WordRegister
-    ensures { result ≡ rp_word rp }
-{
-    match rp {
-        Rp::Sp => WordRegister::Sp,
-        Rp::Bc => WordRegister::Bc,
-        Rp::De => WordRegister::De,
-        Rp::Hl => WordRegister::Hl,
-    }
-}
-
-pub(crate) fn of_rp1(rp1: Rp1) -> WordRegister
-    ensures { result ≡ rp1_word rp1 }
-{
-    match rp1 {
-        Rp1::Va => WordRegister::Va,
-        Rp1::Bc => WordRegister::Bc,
-        Rp1::De => WordRegister::De,
-        Rp1::Hl => WordRegister::Hl,
-        Rp1::Ea => WordRegister::Ea,
     }
 }
