@@ -6,7 +6,17 @@ use Rattle.isa.specs.declared.operands.Rpa2.TheVariants as rpa2
 use Rattle.isa.specs.declared.operands.Rpa3.{Rpa3}
 use Rattle.isa.specs.declared.operands.Rpa3.TheVariants as rpa3
 use Rattle.isa.specs.declared.instructions.Instruction.{Instruction}
-use Rattle.isa.specs.declared.instructions.Instruction.TheVariants.{MovToR1, MovFromR1, MovToSr, MovFromSr1, MovLoad, MovStore, Mvi, MviSr2, Mviw, Mvix, Staw, Ldaw, Stax, Ldax, Exx, Exa, Exh, Block, DmovFromEa, DmovToEa, StoreRp, LoadRp, Steax, Ldeax, Push, Pop, Lxi, Table, OperateA, OperateR, OperateX, OperateByte, OperateRByte, OperateSr2, OperateW, OperateWByte, OperateEa, Eadd, Esub, Mul, Div, Inr, Dcr, Inrw, Dcrw, Inx, Dcx, Daa, Stc, Clc, Nega, Rld, Rrd, Rll, Rlr, Sll, Slr, Sllc, Slrc, Drll, Drlr, Dsll, Dslr, Jmp, Jb, Jr, JreForward, JreBackward, Jea, Call, Calb, Calf, Calt, Softi, Ret, Rets, Reti, Bit, Sk, Skn, Skit, Sknit, Nop, Ei, Di, Hlt}
+use Rattle.isa.specs.declared.instructions.Instruction.TheVariants as family
+use Rattle.isa.specs.declared.instructions.Transfer.{Transfer}
+use Rattle.isa.specs.declared.instructions.Transfer.TheVariants.{MovToR1, MovFromR1, MovLoad, MovStore, Mvi, Mviw, Mvix, Staw, Ldaw, Stax, Ldax, Exx, Exa, Exh, Block, DmovFromEa, DmovToEa, StoreRp, LoadRp, Steax, Ldeax, Push, Pop, Lxi, Table}
+use Rattle.isa.specs.declared.instructions.Arithmetic.{Arithmetic}
+use Rattle.isa.specs.declared.instructions.Arithmetic.TheVariants.{OperateA, OperateR, OperateX, OperateByte, OperateRByte, OperateW, OperateWByte, OperateEa, Eadd, Esub, Mul, Div, Inr, Dcr, Inrw, Dcrw, Inx, Dcx, Daa, Stc, Clc, Nega, Rld, Rrd, Rll, Rlr, Sll, Slr, Sllc, Slrc, Drll, Drlr, Dsll, Dslr}
+use Rattle.isa.specs.declared.instructions.Jump.{Jump}
+use Rattle.isa.specs.declared.instructions.Jump.TheVariants.{Jmp, Jb, Jr, JreForward, JreBackward, Jea, Call, Calb, Calf, Calt, Softi, Ret, Rets, Reti}
+use Rattle.isa.specs.declared.instructions.Special.{Special}
+use Rattle.isa.specs.declared.instructions.Special.TheVariants.{MovToSr, MovFromSr1, MviSr2, OperateSr2}
+use Rattle.isa.specs.declared.instructions.Control.{Control}
+use Rattle.isa.specs.declared.instructions.Control.TheVariants.{Bit, Sk, Skn, Skit, Sknit, Nop, Ei, Di, Hlt}
 
 pub record Cost : Type 0 where
   pub bytes : ℕ
@@ -70,90 +80,105 @@ rpa3_adds rpa3.HlB = true
 rpa3_adds rpa3.HlEa = true
 rpa3_adds rpa3.HlByte = true
 
+abbrev pub transfer_cost : Transfer → Cost
+transfer_cost (MovToR1 r) = cost 1 4 4
+transfer_cost (MovFromR1 r) = cost 1 4 4
+transfer_cost (MovLoad r) = cost 4 17 14
+transfer_cost (MovStore r) = cost 4 17 14
+transfer_cost (Mvi r) = cost 2 7 7
+transfer_cost Mviw = cost 3 13 10
+transfer_cost (Mvix p) = cost 2 10 7
+transfer_cost Staw = cost 2 10 7
+transfer_cost Ldaw = cost 2 10 7
+transfer_cost (Stax a) = cost (cond (rpa2_takes_byte a) 2 1) (cond (rpa2_adds a) 13 7) (cond (rpa2_adds a) 7 4)
+transfer_cost (Ldax a) = cost (cond (rpa2_takes_byte a) 2 1) (cond (rpa2_adds a) 13 7) (cond (rpa2_adds a) 7 4)
+transfer_cost Exx = cost 1 4 4
+transfer_cost Exa = cost 1 4 4
+transfer_cost Exh = cost 1 4 4
+transfer_cost Block = cost 1 13 4
+transfer_cost (DmovFromEa p) = cost 1 4 4
+transfer_cost (DmovToEa p) = cost 1 4 4
+transfer_cost (StoreRp p) = cost 4 20 14
+transfer_cost (LoadRp p) = cost 4 20 14
+transfer_cost (Steax a) = cost (cond (rpa3_takes_byte a) 3 2) (cond (rpa3_adds a) 20 14) (cond (rpa3_adds a) 11 8)
+transfer_cost (Ldeax a) = cost (cond (rpa3_takes_byte a) 3 2) (cond (rpa3_adds a) 20 14) (cond (rpa3_adds a) 11 8)
+transfer_cost (Push p) = cost 1 13 4
+transfer_cost (Pop p) = cost 1 10 4
+transfer_cost (Lxi p) = cost 3 10 10
+transfer_cost Table = cost 2 17 8
+
+abbrev pub arithmetic_cost : Arithmetic → Cost
+arithmetic_cost (OperateA o r) = cost 2 8 8
+arithmetic_cost (OperateR o r) = cost 2 8 8
+arithmetic_cost (OperateX o a) = cost 2 11 8
+arithmetic_cost (OperateByte o) = cost 2 7 7
+arithmetic_cost (OperateRByte o r) = cost 3 11 11
+arithmetic_cost (OperateW o) = cost 3 14 11
+arithmetic_cost (OperateWByte o) = cost 3 (cond (storing o) 19 13) 10
+arithmetic_cost (OperateEa o p) = cost 2 11 8
+arithmetic_cost (Eadd r) = cost 2 11 8
+arithmetic_cost (Esub r) = cost 2 11 8
+arithmetic_cost (Mul r) = cost 2 32 8
+arithmetic_cost (Div r) = cost 2 59 8
+arithmetic_cost (Inr r) = cost 1 4 4
+arithmetic_cost (Dcr r) = cost 1 4 4
+arithmetic_cost Inrw = cost 2 16 7
+arithmetic_cost Dcrw = cost 2 16 7
+arithmetic_cost (Inx p) = cost 1 7 4
+arithmetic_cost (Dcx p) = cost 1 7 4
+arithmetic_cost Daa = cost 1 4 4
+arithmetic_cost Stc = cost 2 8 8
+arithmetic_cost Clc = cost 2 8 8
+arithmetic_cost Nega = cost 2 8 8
+arithmetic_cost Rld = cost 2 17 8
+arithmetic_cost Rrd = cost 2 17 8
+arithmetic_cost (Rll r) = cost 2 8 8
+arithmetic_cost (Rlr r) = cost 2 8 8
+arithmetic_cost (Sll r) = cost 2 8 8
+arithmetic_cost (Slr r) = cost 2 8 8
+arithmetic_cost (Sllc r) = cost 2 8 8
+arithmetic_cost (Slrc r) = cost 2 8 8
+arithmetic_cost Drll = cost 2 8 8
+arithmetic_cost Drlr = cost 2 8 8
+arithmetic_cost Dsll = cost 2 8 8
+arithmetic_cost Dslr = cost 2 8 8
+
+abbrev pub jump_cost : Jump → Cost
+jump_cost Jmp = cost 3 10 10
+jump_cost Jb = cost 1 4 4
+jump_cost (Jr n) = cost 1 10 4
+jump_cost JreForward = cost 2 10 7
+jump_cost JreBackward = cost 2 10 7
+jump_cost Jea = cost 2 8 8
+jump_cost Call = cost 3 16 10
+jump_cost Calb = cost 2 17 8
+jump_cost (Calf n) = cost 2 13 7
+jump_cost (Calt n) = cost 1 16 4
+jump_cost Softi = cost 1 16 4
+jump_cost Ret = cost 1 10 4
+jump_cost Rets = cost 1 10 4
+jump_cost Reti = cost 1 13 4
+
+abbrev pub special_cost : Special → Cost
+special_cost (MovToSr n) = cost 2 10 8
+special_cost (MovFromSr1 n) = cost 2 10 8
+special_cost (MviSr2 n) = cost 3 14 11
+special_cost (OperateSr2 o n) = cost 3 (cond (storing o) 20 14) 11
+
+abbrev pub control_cost : Control → Cost
+control_cost (Bit n) = cost 2 10 7
+control_cost (Sk f) = cost 2 8 8
+control_cost (Skn f) = cost 2 8 8
+control_cost (Skit l) = cost 2 8 8
+control_cost (Sknit l) = cost 2 8 8
+control_cost Nop = cost 1 4 4
+control_cost Ei = cost 1 4 4
+control_cost Di = cost 1 4 4
+control_cost Hlt = cost 2 11 8
+
 abbrev pub cost_of : Instruction → Cost
-cost_of (MovToR1 r) = cost 1 4 4
-cost_of (MovFromR1 r) = cost 1 4 4
-cost_of (MovToSr n) = cost 2 10 8
-cost_of (MovFromSr1 n) = cost 2 10 8
-cost_of (MovLoad r) = cost 4 17 14
-cost_of (MovStore r) = cost 4 17 14
-cost_of (Mvi r) = cost 2 7 7
-cost_of (MviSr2 n) = cost 3 14 11
-cost_of Mviw = cost 3 13 10
-cost_of (Mvix p) = cost 2 10 7
-cost_of Staw = cost 2 10 7
-cost_of Ldaw = cost 2 10 7
-cost_of (Stax a) = cost (cond (rpa2_takes_byte a) 2 1) (cond (rpa2_adds a) 13 7) (cond (rpa2_adds a) 7 4)
-cost_of (Ldax a) = cost (cond (rpa2_takes_byte a) 2 1) (cond (rpa2_adds a) 13 7) (cond (rpa2_adds a) 7 4)
-cost_of Exx = cost 1 4 4
-cost_of Exa = cost 1 4 4
-cost_of Exh = cost 1 4 4
-cost_of Block = cost 1 13 4
-cost_of (DmovFromEa p) = cost 1 4 4
-cost_of (DmovToEa p) = cost 1 4 4
-cost_of (StoreRp p) = cost 4 20 14
-cost_of (LoadRp p) = cost 4 20 14
-cost_of (Steax a) = cost (cond (rpa3_takes_byte a) 3 2) (cond (rpa3_adds a) 20 14) (cond (rpa3_adds a) 11 8)
-cost_of (Ldeax a) = cost (cond (rpa3_takes_byte a) 3 2) (cond (rpa3_adds a) 20 14) (cond (rpa3_adds a) 11 8)
-cost_of (Push p) = cost 1 13 4
-cost_of (Pop p) = cost 1 10 4
-cost_of (Lxi p) = cost 3 10 10
-cost_of Table = cost 2 17 8
-cost_of (OperateA o r) = cost 2 8 8
-cost_of (OperateR o r) = cost 2 8 8
-cost_of (OperateX o a) = cost 2 11 8
-cost_of (OperateByte o) = cost 2 7 7
-cost_of (OperateRByte o r) = cost 3 11 11
-cost_of (OperateSr2 o n) = cost 3 (cond (storing o) 20 14) 11
-cost_of (OperateW o) = cost 3 14 11
-cost_of (OperateWByte o) = cost 3 (cond (storing o) 19 13) 10
-cost_of (OperateEa o p) = cost 2 11 8
-cost_of (Eadd r) = cost 2 11 8
-cost_of (Esub r) = cost 2 11 8
-cost_of (Mul r) = cost 2 32 8
-cost_of (Div r) = cost 2 59 8
-cost_of (Inr r) = cost 1 4 4
-cost_of (Dcr r) = cost 1 4 4
-cost_of Inrw = cost 2 16 7
-cost_of Dcrw = cost 2 16 7
-cost_of (Inx p) = cost 1 7 4
-cost_of (Dcx p) = cost 1 7 4
-cost_of Daa = cost 1 4 4
-cost_of Stc = cost 2 8 8
-cost_of Clc = cost 2 8 8
-cost_of Nega = cost 2 8 8
-cost_of Rld = cost 2 17 8
-cost_of Rrd = cost 2 17 8
-cost_of (Rll r) = cost 2 8 8
-cost_of (Rlr r) = cost 2 8 8
-cost_of (Sll r) = cost 2 8 8
-cost_of (Slr r) = cost 2 8 8
-cost_of (Sllc r) = cost 2 8 8
-cost_of (Slrc r) = cost 2 8 8
-cost_of Drll = cost 2 8 8
-cost_of Drlr = cost 2 8 8
-cost_of Dsll = cost 2 8 8
-cost_of Dslr = cost 2 8 8
-cost_of Jmp = cost 3 10 10
-cost_of Jb = cost 1 4 4
-cost_of (Jr n) = cost 1 10 4
-cost_of JreForward = cost 2 10 7
-cost_of JreBackward = cost 2 10 7
-cost_of Jea = cost 2 8 8
-cost_of Call = cost 3 16 10
-cost_of Calb = cost 2 17 8
-cost_of (Calf n) = cost 2 13 7
-cost_of (Calt n) = cost 1 16 4
-cost_of Softi = cost 1 16 4
-cost_of Ret = cost 1 10 4
-cost_of Rets = cost 1 10 4
-cost_of Reti = cost 1 13 4
-cost_of (Bit n) = cost 2 10 7
-cost_of (Sk f) = cost 2 8 8
-cost_of (Skn f) = cost 2 8 8
-cost_of (Skit l) = cost 2 8 8
-cost_of (Sknit l) = cost 2 8 8
-cost_of Nop = cost 1 4 4
-cost_of Ei = cost 1 4 4
-cost_of Di = cost 1 4 4
-cost_of Hlt = cost 2 11 8
+cost_of (family.Transfer i) = transfer_cost i
+cost_of (family.Arithmetic i) = arithmetic_cost i
+cost_of (family.Jump i) = jump_cost i
+cost_of (family.Special i) = special_cost i
+cost_of (family.Control i) = control_cost i

@@ -10,6 +10,7 @@ use lines::Line;
 use registers::bank::ByteRegister;
 
 // r, in 3 bits.
+#[tactic(auto, unfolding(crate::specs::Codes::register_at))]
 pub(crate) fn register_at(code: u8) -> ByteRegister
     ensures { result ≡ register_at code }
 {
@@ -26,6 +27,7 @@ pub(crate) fn register_at(code: u8) -> ByteRegister
 }
 
 // r1, in 3 bits.
+#[tactic(auto, unfolding(crate::specs::Codes::r1_at))]
 pub(crate) fn r1_at(code: u8) -> R1
     ensures { result ≡ r1_at code }
 {
@@ -42,6 +44,7 @@ pub(crate) fn r1_at(code: u8) -> R1
 }
 
 // r2, in 2 bits.
+#[tactic(auto, unfolding(crate::specs::Codes::r2_at))]
 pub(crate) fn r2_at(code: u8) -> R2
     ensures { result ≡ r2_at code }
 {
@@ -53,6 +56,7 @@ pub(crate) fn r2_at(code: u8) -> R2
 }
 
 // rp, in 2 bits.
+#[tactic(auto, unfolding(crate::specs::Codes::rp_at))]
 pub(crate) fn rp_at(code: u8) -> Rp
     ensures { result ≡ rp_at code }
 {
@@ -65,6 +69,7 @@ pub(crate) fn rp_at(code: u8) -> Rp
 }
 
 // rp1, in 3 bits.
+#[tactic(auto, unfolding(crate::specs::Codes::rp1_at))]
 pub(crate) fn rp1_at(code: u8) -> Rp1
     ensures { result ≡ rp1_at code }
 {
@@ -78,6 +83,7 @@ pub(crate) fn rp1_at(code: u8) -> Rp1
 }
 
 // rp2, in 3 bits.
+#[tactic(auto, unfolding(crate::specs::Codes::rp2_at))]
 pub(crate) fn rp2_at(code: u8) -> Rp2
     ensures { result ≡ rp2_at code }
 {
@@ -91,6 +97,7 @@ pub(crate) fn rp2_at(code: u8) -> Rp2
 }
 
 // rp3, in 2 bits.
+#[tactic(auto, unfolding(crate::specs::Codes::rp3_at))]
 pub(crate) fn rp3_at(code: u8) -> Rp3
     ensures { result ≡ rp3_at code }
 {
@@ -102,6 +109,7 @@ pub(crate) fn rp3_at(code: u8) -> Rp3
 }
 
 // rpa2, in 4 bits.
+#[tactic(auto, unfolding(crate::specs::Codes::rpa2_at))]
 pub(crate) fn rpa2_at(code: u8) -> Rpa2
     ensures { result ≡ rpa2_at code }
 {
@@ -122,6 +130,7 @@ pub(crate) fn rpa2_at(code: u8) -> Rpa2
 }
 
 // rpa3, in 4 bits.
+#[tactic(auto, unfolding(crate::specs::Codes::rpa3_at))]
 pub(crate) fn rpa3_at(code: u8) -> Rpa3
     ensures { result ≡ rpa3_at code }
 {
@@ -139,6 +148,7 @@ pub(crate) fn rpa3_at(code: u8) -> Rpa3
 }
 
 // f, in 3 bits.
+#[tactic(auto, unfolding(crate::specs::Codes::flag_at))]
 pub(crate) fn flag_at(code: u8) -> Flag
     ensures { result ≡ flag_at code }
 {
@@ -150,53 +160,40 @@ pub(crate) fn flag_at(code: u8) -> Flag
 }
 
 // Operation k, 1 to 15; 0, which no caller asks for, is read as 15.
+#[tactic(auto, unfolding(crate::specs::Codes::operation_at))]
 pub(crate) fn operation_at(code: u8) -> Operation
     ensures { result ≡ operation_at code }
 {
-    match Operation::from_code(code) {
-        Some(operation) => operation,
-        None => Operation::Equal,
-    }
+    Operation::from_code(code).unwrap_or(Operation::Equal)
 }
 
 // irf, a line by its number; above 10, for which no caller asks, it is read as 10.
+#[tactic(auto, unfolding(crate::specs::Codes::line_coded))]
 pub(crate) fn line_at(number: u8) -> Line
     ensures { result ≡ line_coded number }
 {
-    match Line::from_number(number) {
-        Some(line) => line,
-        None => Line::Fst,
-    }
+    Line::from_number(number).unwrap_or(Line::Fst)
 }
 
 // sr1: whether a special register can be read into A.
 pub(crate) fn readable(code: u8) -> bool
     ensures { result ≡ can_read code }
 {
-    match code {
-        0x00..=0x03 | 0x05..=0x09 | 0x0B | 0x0D | 0x19 | 0x20..=0x23 => true,
-        _ => false,
-    }
+    matches!(code, 0x00..=0x03 | 0x05..=0x09 | 0x0B | 0x0D | 0x19 | 0x20..=0x23)
 }
 
 // sr: whether it can be written from A.
 pub(crate) fn writable(code: u8) -> bool
     ensures { result ≡ can_write code }
 {
-    match code {
-        0x00..=0x03 | 0x05..=0x0D | 0x10..=0x14 | 0x17..=0x18 | 0x1A..=0x1B | 0x28 => true,
-        _ => false,
-    }
+    matches!(code, 0x00..=0x03 | 0x05..=0x0D | 0x10..=0x14 | 0x17..=0x18 | 0x1A..=0x1B | 0x28)
 }
 
 // sr2: whether it can be both, so that it takes the operations with a byte.
 pub(crate) fn operable(code: u8) -> bool
     ensures { result ≡ both_ways code }
 {
-    match code {
-        0x00..=0x03 | 0x05..=0x09 | 0x0B | 0x0D => true,
-        _ => false,
-    }
+    matches!(code, 0x00..=0x03 | 0x05..=0x09 | 0x0B | 0x0D)
 }
 
 impl R1 {

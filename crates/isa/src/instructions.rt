@@ -1,28 +1,32 @@
-// An instruction with the operands that its opcode names; the bytes behind the opcode are not part of it.
+// An instruction, by families, with the operands that its opcode names; the bytes behind the opcode are not part of it.
 use crate::operands::{Flag, R1, R2, Rp, Rp1, Rp2, Rp3, Rpa2, Rpa3};
 use alu::Operation;
 use lines::Line;
 use registers::bank::ByteRegister;
 
+/// Each family is executed apart.
 #[derive(Clone, Copy)]
 pub enum Instruction {
-    // 8-bit transfer
+    Transfer(Transfer),
+    Arithmetic(Arithmetic),
+    Jump(Jump),
+    Special(Special),
+    Control(Control),
+}
+
+/// Transfers between registers and memory.
+#[derive(Clone, Copy)]
+pub enum Transfer {
     /// MOV r1,A.
     MovToR1(R1),
     /// MOV A,r1.
     MovFromR1(R1),
-    /// MOV sr,A: the code of a special register, 0 to 63.
-    MovToSr(u8),
-    /// MOV A,sr1.
-    MovFromSr1(u8),
     /// MOV r,word.
     MovLoad(ByteRegister),
     /// MOV word,r.
     MovStore(ByteRegister),
     /// MVI r,byte.
     Mvi(ByteRegister),
-    /// MVI sr2,byte.
-    MviSr2(u8),
     /// MVIW wa,byte.
     Mviw,
     /// MVIX rpa1,byte: the pair holds the address.
@@ -43,7 +47,6 @@ pub enum Instruction {
     Exh,
     /// BLOCK.
     Block,
-    // 16-bit transfer
     /// DMOV rp3,EA.
     DmovFromEa(Rp3),
     /// DMOV EA,rp3.
@@ -64,7 +67,11 @@ pub enum Instruction {
     Lxi(Rp2),
     /// TABLE.
     Table,
-    // The fifteen operations
+}
+
+/// The fifteen operations and other arithmetic, shifts and rotates, on registers and memory.
+#[derive(Clone, Copy)]
+pub enum Arithmetic {
     /// A,r, as ADD A,r.
     OperateA(Operation, ByteRegister),
     /// r,A, as ADD r,A.
@@ -75,15 +82,12 @@ pub enum Instruction {
     OperateByte(Operation),
     /// r,byte, as ADI r,byte.
     OperateRByte(Operation, ByteRegister),
-    /// sr2,byte, as ADI sr2,byte.
-    OperateSr2(Operation, u8),
     /// wa, as ADDW wa.
     OperateW(Operation),
     /// wa,byte, as ANIW wa,byte.
     OperateWByte(Operation),
     /// EA,rp3, as DADD EA,rp3.
     OperateEa(Operation, Rp3),
-    // Other arithmetic
     /// EADD EA,r2.
     Eadd(R2),
     /// ESUB EA,r2.
@@ -112,7 +116,6 @@ pub enum Instruction {
     Clc,
     /// NEGA.
     Nega,
-    // Rotate and shift
     /// RLD.
     Rld,
     /// RRD.
@@ -137,7 +140,11 @@ pub enum Instruction {
     Dsll,
     /// DSLR EA.
     Dslr,
-    // Jump, call and return
+}
+
+/// Jumps, calls and returns.
+#[derive(Clone, Copy)]
+pub enum Jump {
     /// JMP word.
     Jmp,
     /// JB.
@@ -166,7 +173,24 @@ pub enum Instruction {
     Rets,
     /// RETI.
     Reti,
-    // Test and control
+}
+
+/// Transfers and operations on special registers, by their codes.
+#[derive(Clone, Copy)]
+pub enum Special {
+    /// MOV sr,A: the code of a special register, 0 to 63.
+    MovToSr(u8),
+    /// MOV A,sr1.
+    MovFromSr1(u8),
+    /// MVI sr2,byte.
+    MviSr2(u8),
+    /// sr2,byte, as ADI sr2,byte.
+    OperateSr2(Operation, u8),
+}
+
+/// Tests and the modes of the core.
+#[derive(Clone, Copy)]
+pub enum Control {
     /// BIT bit,wa: the bit, 0 to 7.
     Bit(u8),
     /// SK f.

@@ -1,7 +1,7 @@
 // The operands that an opcode names, each with its code there: registers, pairs, addressings and flags.
 
 /// r1: a byte of EA or one of B to L.
-#[derive(Clone, Copy)]
+#[derive(Clone, Copy, PartialEq, Eq, Debug)]
 pub enum R1 {
     Eah = 0,
     Eal = 1,
@@ -14,7 +14,7 @@ pub enum R1 {
 }
 
 /// r2: A, B or C.
-#[derive(Clone, Copy)]
+#[derive(Clone, Copy, PartialEq, Eq, Debug)]
 pub enum R2 {
     A = 1,
     B = 2,
@@ -22,7 +22,7 @@ pub enum R2 {
 }
 
 /// rp: SP, BC, DE or HL.
-#[derive(Clone, Copy)]
+#[derive(Clone, Copy, PartialEq, Eq, Debug)]
 pub enum Rp {
     Sp = 0,
     Bc = 1,
@@ -31,7 +31,7 @@ pub enum Rp {
 }
 
 /// rp1: what PUSH and POP name.
-#[derive(Clone, Copy)]
+#[derive(Clone, Copy, PartialEq, Eq, Debug)]
 pub enum Rp1 {
     Va = 0,
     Bc = 1,
@@ -41,7 +41,7 @@ pub enum Rp1 {
 }
 
 /// rp2: rp or EA.
-#[derive(Clone, Copy)]
+#[derive(Clone, Copy, PartialEq, Eq, Debug)]
 pub enum Rp2 {
     Sp = 0,
     Bc = 1,
@@ -51,7 +51,7 @@ pub enum Rp2 {
 }
 
 /// rp3: BC, DE or HL.
-#[derive(Clone, Copy)]
+#[derive(Clone, Copy, PartialEq, Eq, Debug)]
 pub enum Rp3 {
     Bc = 1,
     De = 2,
@@ -59,7 +59,7 @@ pub enum Rp3 {
 }
 
 /// rpa2: the twelve addressings of a byte.
-#[derive(Clone, Copy)]
+#[derive(Clone, Copy, PartialEq, Eq, Debug)]
 pub enum Rpa2 {
     Bc = 1,
     De = 2,
@@ -85,7 +85,7 @@ pub enum Rpa2 {
 }
 
 /// rpa3: the nine addressings of a word.
-#[derive(Clone, Copy)]
+#[derive(Clone, Copy, PartialEq, Eq, Debug)]
 pub enum Rpa3 {
     De = 2,
     Hl = 3,
@@ -106,7 +106,7 @@ pub enum Rpa3 {
 }
 
 /// f: the flags that can be tested.
-#[derive(Clone, Copy)]
+#[derive(Clone, Copy, PartialEq, Eq, Debug)]
 pub enum Flag {
     Carry = 2,
     Half = 3,

@@ -9,19 +9,17 @@ use Rattle.alu.specs.declared.shifts.Shift.TheVariants.{Right, Left, RotateRight
 use Rattle.alu.specs.Counting.{counted_up, counted_down}
 use Rattle.isa.specs.Costs.{cost_of}
 use Rattle.isa.specs.declared.instructions.Instruction.{Instruction}
-use Rattle.machine.specs.declared.families.Family.{Family}
-use Rattle.machine.specs.declared.families.Family.TheVariants as family
-use Rattle.machine.specs.declared.families.Transfer.{Transfer}
-use Rattle.machine.specs.declared.families.Transfer.TheVariants.{MovToR1, MovFromR1, MovLoad, MovStore, Mvi, Mviw, Mvix, Staw, Ldaw, Stax, Ldax, Exx, Exa, Exh, Block, DmovFromEa, DmovToEa, StoreRp, LoadRp, Steax, Ldeax, Push, Pop, Lxi, Table}
-use Rattle.machine.specs.declared.families.Arithmetic.{Arithmetic}
-use Rattle.machine.specs.declared.families.Arithmetic.TheVariants.{OperateA, OperateR, OperateX, OperateByte, OperateRByte, OperateW, OperateWByte, OperateEa, Eadd, Esub, Mul, Div, Inr, Dcr, Inrw, Dcrw, Inx, Dcx, Daa, Stc, Clc, Nega, Rld, Rrd, Rll, Rlr, Sll, Slr, Sllc, Slrc, Drll, Drlr, Dsll, Dslr}
-use Rattle.machine.specs.declared.families.Jump.{Jump}
-use Rattle.machine.specs.declared.families.Jump.TheVariants.{Jmp, Jb, Jr, JreForward, JreBackward, Jea, Call, Calb, Calf, Calt, Softi, Ret, Rets, Reti}
-use Rattle.machine.specs.declared.families.Special.{Special}
-use Rattle.machine.specs.declared.families.Special.TheVariants.{MovToSr, MovFromSr1, MviSr2, OperateSr2}
-use Rattle.machine.specs.declared.families.Control.{Control}
-use Rattle.machine.specs.declared.families.Control.TheVariants.{Bit, Sk, Skn, Skit, Sknit, Nop, Ei, Di, Hlt}
-use Rattle.machine.specs.Families.{family_of}
+use Rattle.isa.specs.declared.instructions.Instruction.TheVariants as family
+use Rattle.isa.specs.declared.instructions.Transfer.{Transfer}
+use Rattle.isa.specs.declared.instructions.Transfer.TheVariants.{MovToR1, MovFromR1, MovLoad, MovStore, Mvi, Mviw, Mvix, Staw, Ldaw, Stax, Ldax, Exx, Exa, Exh, Block, DmovFromEa, DmovToEa, StoreRp, LoadRp, Steax, Ldeax, Push, Pop, Lxi, Table}
+use Rattle.isa.specs.declared.instructions.Arithmetic.{Arithmetic}
+use Rattle.isa.specs.declared.instructions.Arithmetic.TheVariants.{OperateA, OperateR, OperateX, OperateByte, OperateRByte, OperateW, OperateWByte, OperateEa, Eadd, Esub, Mul, Div, Inr, Dcr, Inrw, Dcrw, Inx, Dcx, Daa, Stc, Clc, Nega, Rld, Rrd, Rll, Rlr, Sll, Slr, Sllc, Slrc, Drll, Drlr, Dsll, Dslr}
+use Rattle.isa.specs.declared.instructions.Jump.{Jump}
+use Rattle.isa.specs.declared.instructions.Jump.TheVariants.{Jmp, Jb, Jr, JreForward, JreBackward, Jea, Call, Calb, Calf, Calt, Softi, Ret, Rets, Reti}
+use Rattle.isa.specs.declared.instructions.Special.{Special}
+use Rattle.isa.specs.declared.instructions.Special.TheVariants.{MovToSr, MovFromSr1, MviSr2, OperateSr2}
+use Rattle.isa.specs.declared.instructions.Control.{Control}
+use Rattle.isa.specs.declared.instructions.Control.TheVariants.{Bit, Sk, Skn, Skit, Sknit, Nop, Ei, Di, Hlt}
 use Rattle.machine.specs.declared.words.WordRegister.TheVariants.{Bc, Ea}
 use Rattle.machine.specs.Registers.{with_carry}
 use Rattle.machine.specs.Operands.{r2_register, rp_word, rp1_word, rp2_word, rp3_word}
@@ -133,7 +131,7 @@ controlled Ei m = on_core enabled m
 controlled Di m = on_core disabled m
 controlled Hlt m = on_core halted m
 
-abbrev pub performed : {S : Type 0} → Rules S → Flags → Family → Model S → Model S
+abbrev pub performed : {S : Type 0} → Rules S → Flags → Instruction → Model S → Model S
 performed rules before (family.Transfer i) m = on_reach (transferred before i) m
 performed rules before (family.Arithmetic i) m = on_reach (computed i) m
 performed rules before (family.Jump i) m = on_reach (directed before i) m
@@ -142,4 +140,4 @@ performed rules before (family.Control i) m = controlled i m
 
 -- an instruction begins, and its operation is done
 abbrev pub executed : {S : Type 0} → Rules S → Instruction → Model S → Model S
-executed rules i m = performed rules m.core.registers.flags (family_of i) (on_core (begun (cost_of i).bytes) m)
+executed rules i m = performed rules m.core.registers.flags i (on_core (begun (cost_of i).bytes) m)

@@ -6,5 +6,4 @@ pub mod Of
 pub mod Transfer
 pub mod Arithmetic
 pub mod Control
-pub mod Families
 pub mod Instructions

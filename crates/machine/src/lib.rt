@@ -1,10 +1,9 @@
 // The machine that instructions act on: a core with its board, its panel and its interrupt requests; and what every instruction makes of it.
 #![tactic(auto)]
 
-mod families;
 mod parts;
 mod words;
 
-pub use families::{Arithmetic, Control, Family, Jump, Special, Transfer, classify};
+pub use isa::{Arithmetic, Control, Jump, Special, Transfer};
 pub use parts::Machine;
 pub use words::WordRegister;
