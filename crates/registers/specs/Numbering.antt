@@ -1,5 +1,5 @@
 -- The registers by number: 0 to 7 V A B C D E H L, 8 to 15 their alternates, 16 EA, 17 its alternate, 18 SP, 19 PC, 20 PSW.
-use Rattle.std.specs.Prelude.{ℕ, ◌-◌, ◌/◌, ◌%◌, Bool, cond, ◌&&◌, Some, None, Ok, Err, Option, Result, ◌==◌, nat_lt}
+use Rattle.std.specs.Prelude.{◌≡◌, ℕ, List, codes, ◌-◌, ◌/◌, ◌%◌, Bool, cond, ◌&&◌, Some, None, Ok, Err, Option, Result, ◌==◌, nat_lt}
 use Rattle.registers.specs.declared.bank.Bank.{Bank}
 use Rattle.registers.specs.declared.bank.ByteRegister.{ByteRegister}
 use Rattle.registers.specs.declared.bank.ByteRegister.TheVariants.{V, A, B, C, D, E, H, L}
@@ -15,6 +15,11 @@ use Rattle.registers.specs.Psw.{psw, flags_of}
 abbrev pub fault_number : RegisterFault → ℕ
 fault_number NoSuchRegister = 1
 fault_number ValueOutOfRange = 2
+
+-- the refusals in words
+abbrev pub fault_text : RegisterFault → List ℕ
+fault_text NoSuchRegister = codes "no register has this number"
+fault_text ValueOutOfRange = codes "the register does not take this value"
 
 -- the 8-bit registers in their order
 abbrev pub byte_register : ℕ → ByteRegister
@@ -96,9 +101,6 @@ abbrev pub reading_of : Option RegisterName → Registers → Result ℕ Registe
 reading_of None s = Err NoSuchRegister
 reading_of (Some name) s = Ok (value_of name s)
 
--- a value below a limit, or the refusal
-abbrev pub within : ℕ → ℕ → Result ℕ RegisterFault
-within limit x = cond (nat_lt x limit) (Ok x) (Err ValueOutOfRange)
-
-abbrev pub flags_within : ℕ → Result Flags RegisterFault
-flags_within x = cond (takes Psw x) (Ok (flags_of x)) (Err ValueOutOfRange)
+-- the flags of a value of the PSW, or the refusal
+abbrev pub TakesFlags : ℕ → Result Flags RegisterFault → Type 0
+TakesFlags x r = r ≡ cond (takes Psw x) (Ok (flags_of x)) (Err ValueOutOfRange)

@@ -1,8 +1,8 @@
 // A bank of the eight 8-bit registers; there are two, the main one and its alternate.
-ghost use Rattle.std.specs.Prelude.{◌≡◌};
-ghost use Rattle.registers.specs.Numbering.{held, holding};
+ghost use Rattle.std.specs.Prelude.{◌≡◌, ◌%◌};
+ghost use Rattle.registers.specs.Numbering.{byte_register, held, holding};
 
-#[derive(Clone, Copy)]
+#[derive(Clone, Copy, PartialEq, Eq, Debug)]
 pub enum ByteRegister {
     V,
     A,
@@ -14,7 +14,25 @@ pub enum ByteRegister {
     L,
 }
 
-#[derive(Clone, Copy)]
+impl ByteRegister {
+    /// The register that the low three bits of a code name.
+    pub fn of_code(code: u8) -> ByteRegister
+        ensures { result ≡ byte_register (code % 8) }
+    {
+        match code % 8 {
+            0 => ByteRegister::V,
+            1 => ByteRegister::A,
+            2 => ByteRegister::B,
+            3 => ByteRegister::C,
+            4 => ByteRegister::D,
+            5 => ByteRegister::E,
+            6 => ByteRegister::H,
+            _ => ByteRegister::L,
+        }
+    }
+}
+
+#[derive(Clone, Copy, PartialEq, Eq, Debug, Default)]
 pub struct Bank {
     pub v: u8,
     pub a: u8,

@@ -1,13 +1,14 @@
 // The register file, and its registers by name and number.
-ghost use Rattle.std.specs.Prelude.{◌≡◌};
+ghost use Rattle.std.specs.Prelude.{◌≡◌, ok_or};
 ghost use Rattle.registers.specs.Answers.{answer_of, left_by};
-ghost use Rattle.registers.specs.Numbering.{named, byte_register, value_of, storing, within, flags_within};
+ghost use Rattle.registers.specs.Numbering.{named, value_of, storing};
+ghost use Rattle.registers.specs.declared.fault.RegisterFault.TheVariants.{NoSuchRegister};
 
 use crate::bank::{Bank, ByteRegister};
 use crate::fault::RegisterFault;
 use crate::flags::Flags;
 
-#[derive(Clone, Copy)]
+#[derive(Clone, Copy, PartialEq, Eq, Debug)]
 pub enum RegisterName {
     Main(ByteRegister),
     Alternate(ByteRegister),
@@ -18,40 +19,27 @@ pub enum RegisterName {
     Psw,
 }
 
-impl RegisterName {
-    /// The register of a number, 0 to 20.
-    pub fn from_number(number: u32) -> Option<RegisterName>
-        ensures { result ≡ named number }
-    {
+/// The register of a number, 0 to 20.
+impl TryFrom<u32> for RegisterName {
+    type Error = RegisterFault;
+
+    ghost try_from_gives = { λ number r. r ≡ ok_or (named number) NoSuchRegister };
+
+    fn try_from(number: u32) -> Result<RegisterName, RegisterFault> {
         match number {
-            0..=7 => Some(RegisterName::Main(byte_register(number))),
-            8..=15 => Some(RegisterName::Alternate(byte_register(number - 8))),
-            16 => Some(RegisterName::Ea),
-            17 => Some(RegisterName::EaAlternate),
-            18 => Some(RegisterName::Sp),
-            19 => Some(RegisterName::Pc),
-            20 => Some(RegisterName::Psw),
-            _ => None,
+            0..=7 => Ok(RegisterName::Main(ByteRegister::of_code(number as u8))),
+            8..=15 => Ok(RegisterName::Alternate(ByteRegister::of_code(number as u8))),
+            16 => Ok(RegisterName::Ea),
+            17 => Ok(RegisterName::EaAlternate),
+            18 => Ok(RegisterName::Sp),
+            19 => Ok(RegisterName::Pc),
+            20 => Ok(RegisterName::Psw),
+            _ => Err(RegisterFault::NoSuchRegister),
         }
     }
 }
 
-fn byte_register(number: u32) -> ByteRegister
-    ensures { result ≡ byte_register number }
-{
-    match number {
-        0 => ByteRegister::V,
-        1 => ByteRegister::A,
-        2 => ByteRegister::B,
-        3 => ByteRegister::C,
-        4 => ByteRegister::D,
-        5 => ByteRegister::E,
-        6 => ByteRegister::H,
-        _ => ByteRegister::L,
-    }
-}
-
-#[derive(Clone, Copy)]
+#[derive(Clone, Copy, PartialEq, Eq, Debug, Default)]
 pub struct Registers {
     pub main: Bank,
     pub alternate: Bank,
@@ -74,7 +62,7 @@ impl Registers {
             RegisterName::EaAlternate => self.ea_alternate,
             RegisterName::Sp => self.sp,
             RegisterName::Pc => self.pc,
-            RegisterName::Psw => u16::from(self.flags.byte()),
+            RegisterName::Psw => u16::from(u8::from(self.flags)),
         }
     }
 
@@ -84,47 +72,14 @@ impl Registers {
         ensures after { self.new ≡ left_by (storing name value self.old) self.old }
     {
         match name {
-            RegisterName::Main(register) => self.main.set(register, byte(value)?),
-            RegisterName::Alternate(register) => self.alternate.set(register, byte(value)?),
-            RegisterName::Ea => self.ea = word(value)?,
-            RegisterName::EaAlternate => self.ea_alternate = word(value)?,
-            RegisterName::Sp => self.sp = word(value)?,
-            RegisterName::Pc => self.pc = word(value)?,
-            RegisterName::Psw => self.flags = flags(value)?,
+            RegisterName::Main(register) => self.main.set(register, u8::try_from(value)?),
+            RegisterName::Alternate(register) => self.alternate.set(register, u8::try_from(value)?),
+            RegisterName::Ea => self.ea = u16::try_from(value)?,
+            RegisterName::EaAlternate => self.ea_alternate = u16::try_from(value)?,
+            RegisterName::Sp => self.sp = u16::try_from(value)?,
+            RegisterName::Pc => self.pc = u16::try_from(value)?,
+            RegisterName::Psw => self.flags = Flags::try_from(value)?,
         }
         Ok(())
-    }
-}
-
-/// A value of 8 bits.
-fn byte(value: u32) -> Result<u8, RegisterFault>
-    ensures { result ≡ within 256 value }
-{
-    if value < 256 {
-        Ok(value as u8)
-    } else {
-        Err(RegisterFault::ValueOutOfRange)
-    }
-}
-
-/// A value of 16 bits.
-fn word(value: u32) -> Result<u16, RegisterFault>
-    ensures { result ≡ within 65536 value }
-{
-    if value < 65536 {
-        Ok(value as u16)
-    } else {
-        Err(RegisterFault::ValueOutOfRange)
-    }
-}
-
-/// A value of the PSW's six bits.
-fn flags(value: u32) -> Result<Flags, RegisterFault>
-    ensures { result ≡ flags_within value }
-{
-    if value < 128 && value / 2 % 2 == 0 {
-        Ok(Flags::from_byte(value as u8))
-    } else {
-        Err(RegisterFault::ValueOutOfRange)
     }
 }
