@@ -1,5 +1,5 @@
 -- The bits of `|`, `&`, `^`, of a power of two, and the lowest and highest bit. Assumes nothing.
-use Rattle.std.proofs.Common.{◌≡◌, ℕ, zero, suc, ◌+◌, ◌*◌, ◌/◌, ◌%◌, ◌^◌, ◌<◌, ◌≤◌, Bool, true, false, cond, not, ◌&&◌, ◌||◌, eqb, ltb, Some, sym, refl, ap, ◌∙◌, inl, inr, lt_of_lt_of_le, pow-suc, arith, pow_mono, below_none, below_more}
+use Rattle.std.proofs.Common.{◌≡◌, ℕ, zero, suc, ◌+◌, ◌*◌, ◌/◌, ◌%◌, ◌^◌, ◌<◌, ◌≤◌, Bool, true, false, cond, not, ◌&&◌, ◌||◌, eqb, ltb, Some, None, sym, refl, ap, ◌∙◌, inl, inr, lt_of_lt_of_le, pow-suc, arith, pow_mono, below_none, below_more}
 use mathlib.Core.Path.{fun_ext}
 use lib.Bits.{or_lt, xor_lt, and_le_l, bit_and, bit_or, bit_xor, and_shr, or_shr, xor_shr, and_mod, or_mod, xor_mod}
 use Rattle.std.proofs.lemmas.Nat.{shr-shr, one_shl, pow_below}
@@ -137,12 +137,25 @@ from_levels a =
     let more = below_more P in
     more 10 (more 9 (more 8 (more 7 (more 6 (more 5 (more 4 (more 3 (more 2 (more 1 (more 0 (below_none P) refl) refl) refl) refl) refl) refl) refl) refl) refl) refl) refl
 
-pub levelled : (a : ℕ) → a < 2048 → 0 < a → level_of (bit a) ≡ Some ((count_trailing_zeros 16 a + 1) / 2)
-levelled a h g =
+-- the lowest line of a set that has one
+lowest_line : (a : ℕ) → a < 2048 → 0 < a → count_trailing_zeros 16 a < 11
+lowest_line a h g =
     let t : ℕ = count_trailing_zeros 16 a in
-    let there : bit a t ≡ true = lowest 16 a (omega arith) g in
-    let low : t < 11 = elim (cases_lt t 11) [ inl l ↦ l | inr l ↦ absurd (true≢false (sym there ∙ bit_high a 11 t h l)) ] in
-    ap level_of (fun_ext (λ k. starts (bit a) t there (λ j. below_lowest 16 a j) k)) ∙ from_levels (bit a) t low
+    elim (cases_lt t 11) [ inl l ↦ l | inr l ↦ absurd (true≢false (sym (lowest 16 a (omega arith) g) ∙ bit_high a 11 t h l)) ]
+
+pub no_level : (a : ℕ) → a < 2048 → 11 ≤ count_trailing_zeros 16 a → level_of (bit a) ≡ None
+no_level a h g =
+    let none : a ≡ 0 = elim (cases_lt 0 a) [ inl some ↦ absurd (omega (arith, lowest_line a h some)) | inr l ↦ omega arith ] in
+    ap (λ n. level_of (bit n)) none ∙ (λ i. level_of (λ k. bit_zero k i))
+
+pub levelled : (a n : ℕ) → a < 2048 → (count_trailing_zeros 16 a + 1) / 2 ≡ n → n < 6 → level_of (bit a) ≡ Some n
+unfolding count_trailing_zeros
+levelled a n h e small =
+    let t : ℕ = count_trailing_zeros 16 a in
+    let zero : count_trailing_zeros 16 0 ≡ 16 = refl in
+    let some : 0 < a = elim (cases_lt 0 a) [ inl l ↦ l | inr l ↦ absurd (let none : a ≡ 0 = omega arith in omega (arith, ap (count_trailing_zeros 16) none)) ] in
+    let there : bit a t ≡ true = lowest 16 a (omega arith) some in
+    ap level_of (fun_ext (λ k. starts (bit a) t there (λ j. below_lowest 16 a j) k)) ∙ from_levels (bit a) t (lowest_line a h some) ∙ ap Some e
   where
     starts : (b : ℕ → Bool) (t : ℕ) → b t ≡ true → ((j : ℕ) → j < t → b j ≡ false) → (k : ℕ) → b k ≡ from b t k
     starts b t e low k =

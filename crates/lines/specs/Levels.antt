@@ -11,6 +11,15 @@ use Rattle.lines.specs.Sets.{bit, level_of}
 abbrev pub level_at : ℕ → Level
 level_at n = cond (n == 0) Nmi (cond (n == 1) Timer (cond (n == 2) External (cond (n == 3) Counter (cond (n == 4) Analog Serial))))
 
+-- and the number of a level
+abbrev pub level_number : Level → ℕ
+level_number Nmi = 0
+level_number Timer = 1
+level_number External = 2
+level_number Counter = 3
+level_number Analog = 4
+level_number Serial = 5
+
 abbrev pub named_level : Option ℕ → Option Level
 named_level None = None
 named_level (Some n) = Some (level_at n)

@@ -1,6 +1,6 @@
 // The six interrupt levels, the address that each is entered at, and the mark that an entry clears.
-ghost use Rattle.std.specs.Prelude.{◌≡◌};
-ghost use Rattle.lines.specs.Levels.{level_at, vector_of, one_of, entered_by};
+ghost use Rattle.std.specs.Prelude.{◌≡◌, ◌<◌};
+ghost use Rattle.lines.specs.Levels.{level_at, level_number, vector_of, one_of, entered_by};
 ghost use Rattle.lines.specs.Numbers.{number_of};
 ghost use Rattle.lines.specs.Sets.{bit};
 
@@ -43,18 +43,13 @@ fn one_of(first: Line, second: Line, masks: u16) -> Option<Line>
 }
 
 impl Level {
-    // The level with a number: 0 for NMI, then 1 to 5 for the pairs.
-    pub(crate) fn of_number(number: u8) -> Level
-        ensures { result ≡ level_at number }
+    // 0 for NMI, then 1 to 5 for the pairs.
+    pub fn number(self) -> u8
+        ensures value { result ≡ level_number self }
+        ensures bound { result < 6 }
+        ensures back { level_at result ≡ self }
     {
-        match number {
-            0 => Level::Nmi,
-            1 => Level::Timer,
-            2 => Level::External,
-            3 => Level::Counter,
-            4 => Level::Analog,
-            _ => Level::Serial,
-        }
+        self as u8
     }
 
     pub fn vector(self) -> u16

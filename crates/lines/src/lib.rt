@@ -6,5 +6,5 @@ mod line;
 mod set;
 
 pub use level::Level;
-pub use line::Line;
+pub use line::{Line, NoSuchLine};
 pub use set::Lines;

@@ -1,6 +1,9 @@
 // The eleven interrupt lines by the chip's names, and their numbers.
-ghost use Rattle.std.specs.Prelude.{◌≡◌, ◌<◌, ◌≤◌, Some, MatchOption};
-ghost use Rattle.lines.specs.Numbers.{number_of, line_at};
+ghost use Rattle.std.specs.Prelude.{◌≡◌, ◌<◌, Some};
+ghost use Rattle.lines.specs.Numbers.{number_of, line_at, IsLine};
+
+use std::error::Error;
+use std::fmt;
 
 #[derive(Clone, Copy, PartialEq, Eq, Debug)]
 pub enum Line {
@@ -17,8 +20,27 @@ pub enum Line {
     Fst,
 }
 
+// A number above 10, which no line has.
+#[derive(Clone, Copy, PartialEq, Eq, Debug)]
+pub struct NoSuchLine(pub u8);
+
 impl Line {
-    // From 0 for NMI to 10 for FST.
+    // The lines in order, so that the place of each is its number.
+    pub const ALL: [Line; 11] = [
+        Line::Nmi,
+        Line::Ft0,
+        Line::Ft1,
+        Line::F1,
+        Line::F2,
+        Line::Fe0,
+        Line::Fe1,
+        Line::Fein,
+        Line::Fad,
+        Line::Fsr,
+        Line::Fst,
+    ];
+
+    // From 0 for NMI to 10 for FST. A number, since it is a place in an array and a shift.
     pub fn number(self) -> u8
         ensures value { result ≡ number_of self }
         ensures bound { result < 11 }
@@ -26,25 +48,35 @@ impl Line {
     {
         self as u8
     }
+}
 
-    // None for a number above 10.
-    pub fn from_number(number: u8) -> Option<Line>
-        ensures value { result ≡ line_at number }
-        ensures back { MatchOption result (11 ≤ number) (λ line. (number_of line ≡ number) × (number < 11)) }
-    {
+impl TryFrom<u8> for Line {
+    type Error = NoSuchLine;
+
+    ghost try_from_gives = { IsLine };
+
+    fn try_from(number: u8) -> Result<Self, NoSuchLine> {
         match number {
-            0 => Some(Line::Nmi),
-            1 => Some(Line::Ft0),
-            2 => Some(Line::Ft1),
-            3 => Some(Line::F1),
-            4 => Some(Line::F2),
-            5 => Some(Line::Fe0),
-            6 => Some(Line::Fe1),
-            7 => Some(Line::Fein),
-            8 => Some(Line::Fad),
-            9 => Some(Line::Fsr),
-            10 => Some(Line::Fst),
-            _ => None,
+            0 => Ok(Line::Nmi),
+            1 => Ok(Line::Ft0),
+            2 => Ok(Line::Ft1),
+            3 => Ok(Line::F1),
+            4 => Ok(Line::F2),
+            5 => Ok(Line::Fe0),
+            6 => Ok(Line::Fe1),
+            7 => Ok(Line::Fein),
+            8 => Ok(Line::Fad),
+            9 => Ok(Line::Fsr),
+            10 => Ok(Line::Fst),
+            _ => Err(NoSuchLine(number)),
         }
     }
 }
+
+impl fmt::Display for NoSuchLine {
+    fn fmt<W: fmt::Write>(&self, f: &mut fmt::Formatter<W>) -> fmt::Result {
+        write!(f, "no line has number {}", self.0)
+    }
+}
+
+impl Error for NoSuchLine {}

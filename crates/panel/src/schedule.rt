@@ -31,7 +31,7 @@ pub(crate) fn due_by(schedule: &[Due], next: &mut usize, until: u32) -> Lines
 {
     let mut lines = Lines::empty();
     while *next < schedule.len() && schedule[*next].at <= until {
-        if let Some(line) = Line::from_number(schedule[*next].line) {
+        if let Ok(line) = Line::try_from(schedule[*next].line) {
             lines.insert(line);
         }
         *next += 1;

@@ -1,5 +1,5 @@
 // Numbers, masks and levels of lines, and what an entry clears.
-use lines::{Level, Line, Lines};
+use lines::{Level, Line, Lines, NoSuchLine};
 
 fn set(first: Line, second: Line) -> Lines {
     let mut lines = Lines::empty();
@@ -13,50 +13,80 @@ fn numbers(rt: HostRuntime) {
     assert_eq!(rt; Line::Nmi.number(), 0);
     assert_eq!(rt; Line::Fein.number(), 7);
     assert_eq!(rt; Line::Fst.number(), 10);
-    assert_eq!(rt; Line::from_number(8), Some(Line::Fad));
-    assert_eq!(rt; Line::from_number(11), None);
+    assert_eq!(rt; Line::try_from(8), Ok(Line::Fad));
+    assert_eq!(rt; Line::try_from(11), Err(NoSuchLine(11)));
 }
 
 #[test]
 fn levels(rt: HostRuntime) {
     assert_eq!(rt; Lines::empty().level(), None);
-    assert_eq!(rt; set(Line::Nmi, Line::Fst).level(), Some(0));
-    assert_eq!(rt; set(Line::Ft1, Line::F1).level(), Some(1));
-    assert_eq!(rt; set(Line::F2, Line::Fe0).level(), Some(2));
-    assert_eq!(rt; set(Line::Fe1, Line::Fad).level(), Some(3));
-    assert_eq!(rt; set(Line::Fein, Line::Fsr).level(), Some(4));
-    assert_eq!(rt; set(Line::Fsr, Line::Fst).level(), Some(5));
+    assert_eq!(rt;
+        set(Line::Nmi, Line::Fst).level().map(Level::number),
+        Some(0)
+    );
+    assert_eq!(rt;
+        set(Line::Ft1, Line::F1).level().map(Level::number),
+        Some(1)
+    );
+    assert_eq!(rt;
+        set(Line::F2, Line::Fe0).level().map(Level::number),
+        Some(2)
+    );
+    assert_eq!(rt;
+        set(Line::Fe1, Line::Fad).level().map(Level::number),
+        Some(3)
+    );
+    assert_eq!(rt;
+        set(Line::Fein, Line::Fsr).level().map(Level::number),
+        Some(4)
+    );
+    assert_eq!(rt;
+        set(Line::Fsr, Line::Fst).level().map(Level::number),
+        Some(5)
+    );
 }
 
 #[test]
 fn masks(rt: HostRuntime) {
-    assert_eq!(rt; set(Line::Nmi, Line::Ft0).unmasked(0xffff).level(), Some(0));
-    assert_eq!(rt; set(Line::Ft0, Line::Fst).unmasked(0x0002).level(), Some(5));
+    assert_eq!(rt;
+        set(Line::Nmi, Line::Ft0)
+            .unmasked(0xffff)
+            .level()
+            .map(Level::number),
+        Some(0)
+    );
+    assert_eq!(rt;
+        set(Line::Ft0, Line::Fst)
+            .unmasked(0x0002)
+            .level()
+            .map(Level::number),
+        Some(5)
+    );
     assert_eq!(rt; set(Line::Ft0, Line::Fst).unmasked(0x0402).level(), None);
 }
 
 #[test]
 fn levels_by_name(rt: HostRuntime) {
-    assert_eq!(rt; Lines::empty().highest(), None);
-    assert_eq!(rt; set(Line::Nmi, Line::Fst).highest(), Some(Level::Nmi));
-    assert_eq!(rt; set(Line::Ft1, Line::F1).highest(), Some(Level::Timer));
-    assert_eq!(rt; set(Line::F2, Line::Fe0).highest(), Some(Level::External));
-    assert_eq!(rt; set(Line::Fe1, Line::Fad).highest(), Some(Level::Counter));
-    assert_eq!(rt; set(Line::Fein, Line::Fsr).highest(), Some(Level::Analog));
-    assert_eq!(rt; set(Line::Fsr, Line::Fst).highest(), Some(Level::Serial));
+    assert_eq!(rt; Lines::empty().level(), None);
+    assert_eq!(rt; set(Line::Nmi, Line::Fst).level(), Some(Level::Nmi));
+    assert_eq!(rt; set(Line::Ft1, Line::F1).level(), Some(Level::Timer));
+    assert_eq!(rt; set(Line::F2, Line::Fe0).level(), Some(Level::External));
+    assert_eq!(rt; set(Line::Fe1, Line::Fad).level(), Some(Level::Counter));
+    assert_eq!(rt; set(Line::Fein, Line::Fsr).level(), Some(Level::Analog));
+    assert_eq!(rt; set(Line::Fsr, Line::Fst).level(), Some(Level::Serial));
 }
 
 #[test]
 fn masks_by_name(rt: HostRuntime) {
     assert_eq!(rt;
-        set(Line::Nmi, Line::Ft0).unmasked(0xffff).highest(),
+        set(Line::Nmi, Line::Ft0).unmasked(0xffff).level(),
         Some(Level::Nmi)
     );
     assert_eq!(rt;
-        set(Line::Ft0, Line::Fst).unmasked(0x0002).highest(),
+        set(Line::Ft0, Line::Fst).unmasked(0x0002).level(),
         Some(Level::Serial)
     );
-    assert_eq!(rt; set(Line::Ft0, Line::Fst).unmasked(0x0402).highest(), None);
+    assert_eq!(rt; set(Line::Ft0, Line::Fst).unmasked(0x0402).level(), None);
 }
 
 #[test]

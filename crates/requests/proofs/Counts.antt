@@ -1,11 +1,11 @@
 -- A signal that is counted, and a change of each line in turn. Assumes nothing.
-use Rattle.std.proofs.Common.{◌≡◌, ℕ, ◌+◌, ◌<◌, ◌≤◌, true, false, ltb, sym, ap, ◌∙◌, inl, inr, arith}
+use Rattle.std.proofs.Common.{◌≡◌, ℕ, ◌+◌, ◌<◌, ◌≤◌, Bool, true, false, ltb, sym, ap, ◌∙◌, inl, inr, arith}
 use mathlib.Core.Path.{fun_ext}
 use Rattle.std.proofs.lemmas.Bool.{cases_eq, cases_lt, lt-ltb, le-ltb}
 use Rattle.requests.specs.declared.tally.Tally.{Tally}
 use Rattle.requests.specs.Request.{Request, tally_of, request_of, one, last, when, counted, signalled, dropping}
 use Rattle.requests.specs.All.{at_line}
-use Rattle.requests.proofs.Places.{at_here, at_other}
+use Rattle.requests.proofs.Places.{at_here, at_other, left_alone}
 
 pub counts : (r : Request) (t : Tally) (n : ℕ) → t ≡ tally_of r → n ≡ one r.waiting → t.signals < last → request_of true (record { signals = t.signals + 1; merged = t.merged + n; entered = t.entered; tested = t.tested; dropped = t.dropped }) ≡ signalled r
 counts r t n same waits h =
@@ -45,6 +45,16 @@ module _ (f : ℕ → Request → Request) (rs : ℕ → Request) where
 
   pub all_done : (n : ℕ) → ((k : ℕ) → n ≤ k → f k (rs k) ≡ rs k) → up_to f n rs ≡ (λ k. f k (rs k))
   all_done n past = fun_ext (λ k. elim (cases_lt k n) [ inl h ↦ below n k h | inr h ↦ above n k h ∙ sym (past k h) ])
+
+-- the next line changed where it is in a set, and left where it is not
+module _ (rising : ℕ → Bool) (f : Request → Request) (rs : ℕ → Request) (n m : ℕ) (now after : ℕ → Request) (same : m ≡ n)
+    (so_far : now ≡ up_to (λ k. when (rising k) f) n rs) where
+  pub taken : after ≡ at_line m f now → rising m ≡ true → after ≡ up_to (λ k. when (rising k) f) (n + 1) rs
+  taken e on = next (λ k. when (rising k) f) rs n m now after (e ∙ (λ i. at_line m (when (sym (ap rising (sym same) ∙ on) i) f) now)) same so_far
+
+  pub skipped : after ≡ now → rising m ≡ false → after ≡ up_to (λ k. when (rising k) f) (n + 1) rs
+  skipped e off = next (λ k. when (rising k) f) rs n m now after
+      (e ∙ left_alone (when (rising n) f) m now (ap (λ b. when b f (now m)) (ap rising (sym same) ∙ off))) same so_far
 
 -- a reset leaves a line that does not wait
 pub no_drop : (r : Request) → r.waiting ≡ false → dropping r ≡ r

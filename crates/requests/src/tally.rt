@@ -1,5 +1,5 @@
 // What is counted of one interrupt line.
-#[derive(Clone, Copy, PartialEq, Eq, Debug)]
+#[derive(Clone, Copy, PartialEq, Eq, Debug, Default)]
 pub struct Tally {
     pub signals: u64,
     // signals while the mark was set already

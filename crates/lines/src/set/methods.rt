@@ -1,8 +1,8 @@
 // What can be done with a set of lines.
-ghost use Rattle.std.specs.Prelude.{◌≡◌, Decides};
+ghost use Rattle.std.specs.Prelude.{◌≡◌, Decides, option_map};
 ghost use Rattle.lines.specs.Numbers.{number_of};
 ghost use Rattle.lines.specs.Sets.{none, joined, with_line, without, unmasked_by, level_of};
-ghost use Rattle.lines.specs.Levels.{highest_of};
+ghost use Rattle.lines.specs.Levels.{highest_of, level_number};
 ghost use Rattle.lines.specs.Of.{lines_of};
 
 use super::Lines;
@@ -10,6 +10,7 @@ use crate::level::Level;
 use crate::line::Line;
 
 impl Lines {
+    // No line. A default by hand would be no shorter, and none can be derived beside a ghost field.
     pub fn empty() -> Lines
         ensures { lines_of result ≡ none }
     {
@@ -55,24 +56,19 @@ impl Lines {
         }
     }
 
-    // The highest interrupt level with a line in the set: 0 for NMI, then 1 to 5 for the pairs.
-    pub fn level(self) -> Option<u8>
-        ensures { result ≡ level_of (lines_of self) }
+    // The highest interrupt level with a line in the set, which is that of the lowest line.
+    pub fn level(self) -> Option<Level>
+        ensures value { result ≡ highest_of (lines_of self) }
+        ensures number { option_map level_number result ≡ level_of (lines_of self) }
     {
-        if self.bits == 0 {
-            return None;
-        }
-        let first = self.bits.trailing_zeros() as u8;
-        Some((first + 1) / 2)
-    }
-
-    // The highest interrupt level with a line in the set, by its name.
-    pub fn highest(self) -> Option<Level>
-        ensures { result ≡ highest_of (lines_of self) }
-    {
-        match self.level() {
-            Some(number) => Some(Level::of_number(number)),
-            None => None,
+        match self.bits.trailing_zeros() {
+            0 => Some(Level::Nmi),
+            1 | 2 => Some(Level::Timer),
+            3 | 4 => Some(Level::External),
+            5 | 6 => Some(Level::Counter),
+            7 | 8 => Some(Level::Analog),
+            9 | 10 => Some(Level::Serial),
+            _ => None,
         }
     }
 }

@@ -56,11 +56,9 @@ impl Requests {
     fn signal_each(&mut self, lines: Lines)
         ensures { requests_of self.new ≡ signalled_all (lines_of lines) (requests_of self.old) }
     {
-        for number in 0..11 {
-            if let Some(line) = Line::from_number(number) {
-                if lines.has(line) {
-                    self.signal(line);
-                }
+        for line in Line::ALL {
+            if lines.has(line) {
+                self.signal(line);
             }
         }
     }
@@ -99,10 +97,8 @@ impl Requests {
     pub fn drop_all(&mut self)
         ensures { requests_of self.new ≡ dropped_all (requests_of self.old) }
     {
-        for number in 0..11 {
-            if let Some(line) = Line::from_number(number) {
-                self.drop_one(line);
-            }
+        for line in Line::ALL {
+            self.drop_one(line);
         }
     }
 }

@@ -10,14 +10,6 @@ use super::Requests;
 use crate::tally::Tally;
 use lines::{Line, Lines};
 
-const NOTHING: Tally = Tally {
-    signals: 0,
-    merged: 0,
-    entered: 0,
-    tested: 0,
-    dropped: 0,
-};
-
 impl Requests {
     // No line had a signal.
     pub fn new() -> Requests
@@ -25,7 +17,7 @@ impl Requests {
     {
         Requests {
             marks: Lines::empty(),
-            tallies: [NOTHING; 11],
+            tallies: [Tally::default(); 11],
         }
     }
 

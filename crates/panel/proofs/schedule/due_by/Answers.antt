@@ -5,7 +5,7 @@ use Rattle.lines.specs.Of.{lines_of}
 use Rattle.panel.specs.Places.{Coming, up_to, no_record}
 use Rattle.panel.proofs.Records.{search_ended}
 use Rattle.panel.proofs.schedule.due_by.Goals as goal
-use Rattle.panel.proofs.schedule.due_by.Goals.{in-Some, in_default}
+use Rattle.panel.proofs.schedule.due_by.Goals.{in-Ok, in_default}
 
 pub loop-next-preserved : goal.loop-next-preserved
 loop-next-preserved c =
@@ -13,10 +13,10 @@ loop-next-preserved c =
       (omega arith, below_more _ _ c.loop-next.invariant.0.1 c.if-schedule-next.true),
       λ k. let step = at_drop_more (λ xs. up_to xs c.args.until k) ds c.loop-next.next no_record c.loop-next-test.true in
           let inv = c.loop-next.invariant.1 k in
-          elim c.match-from_number.branch [
-            | in-Some w ↦ let l = ap (λ x. lines_of x k) w.lines-is in let e = ap (λ f. f k) w.insert.ensures in
-                let n = w.in-Some.ensures.back in grind (arith, nat_tests)
-            | in_default w ↦ let l = ap (λ x. lines_of x k) w.lines-is in let n = w.in_default.ensures.back in grind (arith, nat_tests)
+          elim c.match-try_from.branch [
+            | in-Ok w ↦ let l = ap (λ x. lines_of x k) w.lines-is in let e = ap (λ f. f k) w.insert.ensures in
+                let n = w.in-Ok.ensures in grind (arith, nat_tests)
+            | in_default w ↦ let l = ap (λ x. lines_of x k) w.lines-is in let n = w.in_default.ensures in grind (arith, nat_tests)
           ],
     )
 

@@ -1,13 +1,48 @@
-use Rattle.std.proofs.Common.{sym, ap, ◌∙◌, arith}
-use Rattle.lines.specs.Sets.{bit, level_of}
-use Rattle.lines.proofs.Digits.{bit_zero, levelled}
+use Rattle.std.proofs.Common.{◌≡◌, ◌≤◌, sym, ap, arith}
+use lib.Count.{count_trailing_zeros}
+use Rattle.lines.specs.Levels.{named_level}
 use Rattle.lines.specs.Of.{lines_of}
+use Rattle.lines.proofs.Digits.{levelled, no_level}
 use Rattle.lines.proofs.set.Lines.level.Goals as goal
 
-pub returns-then-self-eq0 : goal.returns-then-self-eq0
+pub returns-in-0 : goal.returns-in-0
 unfolding lines_of
-returns-then-self-eq0 c = sym (ap (λ n. level_of (bit n)) c.if-self-eq0.true ∙ (λ i. level_of (λ k. bit_zero k i)))
+returns-in-0 c =
+    let is = levelled c.args.self.bits 0 c.args.self.ok (omega arith) (omega arith) in
+    record { value = sym (ap named_level is); number = sym is }
 
-pub returns : goal.returns
+pub returns-in-1 : goal.returns-in-1
 unfolding lines_of
-returns c = sym (levelled c.args.self.bits c.args.self.ok (omega arith))
+returns-in-1 c =
+    let is = levelled c.args.self.bits 1 c.args.self.ok (omega arith) (omega arith) in
+    record { value = sym (ap named_level is); number = sym is }
+
+pub returns-in-3 : goal.returns-in-3
+unfolding lines_of
+returns-in-3 c =
+    let is = levelled c.args.self.bits 2 c.args.self.ok (omega arith) (omega arith) in
+    record { value = sym (ap named_level is); number = sym is }
+
+pub returns-in-5 : goal.returns-in-5
+unfolding lines_of
+returns-in-5 c =
+    let is = levelled c.args.self.bits 3 c.args.self.ok (omega arith) (omega arith) in
+    record { value = sym (ap named_level is); number = sym is }
+
+pub returns-in-7 : goal.returns-in-7
+unfolding lines_of
+returns-in-7 c =
+    let is = levelled c.args.self.bits 4 c.args.self.ok (omega arith) (omega arith) in
+    record { value = sym (ap named_level is); number = sym is }
+
+pub returns-in-9 : goal.returns-in-9
+unfolding lines_of
+returns-in-9 c =
+    let is = levelled c.args.self.bits 5 c.args.self.ok (omega arith) (omega arith) in
+    record { value = sym (ap named_level is); number = sym is }
+
+pub returns-in_default : goal.returns-in_default
+unfolding lines_of
+returns-in_default c =
+    let is = no_level c.args.self.bits c.args.self.ok (omega arith) in
+    record { value = sym (ap named_level is); number = sym is }

@@ -5,5 +5,5 @@ use Rattle.requests.specs.Request.{signalled, when}
 use Rattle.requests.proofs.Counts.{up_to}
 use Rattle.requests.proofs.requests.Requests.signal_each.Given as goal
 
-abbrev pub invariant-loop-number : goal.invariant-loop-number
-invariant-loop-number l = requests_of l.self ≡ up_to (λ k. when (lines_of l.lines k) signalled) l.number (requests_of l.initial.self)
+abbrev pub invariant-loop-line : goal.invariant-loop-line
+invariant-loop-line l = requests_of l.self ≡ up_to (λ k. when (lines_of l.lines k) signalled) l.line-index (requests_of l.initial.self)
