@@ -1,6 +1,6 @@
 // Calls, and the software interrupt.
 ghost use Rattle.std.specs.Prelude.{◌≡◌};
-ghost use Rattle.machine.specs.Model.{reach};
+ghost use Rattle.machine.specs.Effects.{Acts};
 ghost use Rattle.machine.specs.Control.{called, called_to_word, called_fixed, called_by_bc, called_by_table, soft_interrupted};
 
 use board::Board;
@@ -19,8 +19,7 @@ const CALL_TABLE: u16 = 0x0080;
 const SOFT_VECTOR: u16 = 0x0060;
 
 fn call_to<B: Board>(registers: &mut Registers, board: &mut B, target: u16)
-    ensures after { reach registers.new (B.Board.cells board.new) ≡ called target (reach registers.old (B.Board.cells board.old)) }
-    ensures keeps { B.Board.rest board.new ≡ B.Board.rest board.old }
+    ensures { Acts B.Board (called target) (registers.old, board.old) (registers.new, board.new) }
 {
     push_word(board, registers.sp, registers.pc);
     registers.sp = registers.sp.wrapping_sub(2);
@@ -29,8 +28,7 @@ fn call_to<B: Board>(registers: &mut Registers, board: &mut B, target: u16)
 
 /// CALL word.
 pub(crate) fn call<B: Board>(registers: &mut Registers, board: &mut B)
-    ensures after { reach registers.new (B.Board.cells board.new) ≡ called_to_word (reach registers.old (B.Board.cells board.old)) }
-    ensures keeps { B.Board.rest board.new ≡ B.Board.rest board.old }
+    ensures { Acts B.Board called_to_word (registers.old, board.old) (registers.new, board.new) }
 {
     let target = read_data_word(registers, board);
     call_to(registers, board, target);
@@ -38,8 +36,7 @@ pub(crate) fn call<B: Board>(registers: &mut Registers, board: &mut B)
 
 /// CALB.
 pub(crate) fn call_by_bc<B: Board>(registers: &mut Registers, board: &mut B)
-    ensures after { reach registers.new (B.Board.cells board.new) ≡ called_by_bc (reach registers.old (B.Board.cells board.old)) }
-    ensures keeps { B.Board.rest board.new ≡ B.Board.rest board.old }
+    ensures { Acts B.Board called_by_bc (registers.old, board.old) (registers.new, board.new) }
 {
     let target = get_word(registers, WordRegister::Bc);
     call_to(registers, board, target);
@@ -47,8 +44,7 @@ pub(crate) fn call_by_bc<B: Board>(registers: &mut Registers, board: &mut B)
 
 /// CALF.
 pub(crate) fn call_fixed<B: Board>(registers: &mut Registers, board: &mut B, high: u8)
-    ensures after { reach registers.new (B.Board.cells board.new) ≡ called_fixed high (reach registers.old (B.Board.cells board.old)) }
-    ensures keeps { B.Board.rest board.new ≡ B.Board.rest board.old }
+    ensures { Acts B.Board (called_fixed high) (registers.old, board.old) (registers.new, board.new) }
 {
     let offset = u16::from_be_bytes([high, data_byte(registers, board)]);
     call_to(registers, board, FIXED_CALLS.wrapping_add(offset));
@@ -56,8 +52,7 @@ pub(crate) fn call_fixed<B: Board>(registers: &mut Registers, board: &mut B, hig
 
 /// CALT: the table is read after the push.
 pub(crate) fn call_by_table<B: Board>(registers: &mut Registers, board: &mut B, place: u8)
-    ensures after { reach registers.new (B.Board.cells board.new) ≡ called_by_table place (reach registers.old (B.Board.cells board.old)) }
-    ensures keeps { B.Board.rest board.new ≡ B.Board.rest board.old }
+    ensures { Acts B.Board (called_by_table place) (registers.old, board.old) (registers.new, board.new) }
 {
     push_word(board, registers.sp, registers.pc);
     registers.sp = registers.sp.wrapping_sub(2);
@@ -66,8 +61,7 @@ pub(crate) fn call_by_table<B: Board>(registers: &mut Registers, board: &mut B, 
 
 /// SOFTI: PSW goes to the stack first, as it was before the instruction.
 pub(crate) fn interrupt_softly<B: Board>(registers: &mut Registers, board: &mut B, before: Flags)
-    ensures after { reach registers.new (B.Board.cells board.new) ≡ soft_interrupted before (reach registers.old (B.Board.cells board.old)) }
-    ensures keeps { B.Board.rest board.new ≡ B.Board.rest board.old }
+    ensures { Acts B.Board (soft_interrupted before) (registers.old, board.old) (registers.new, board.new) }
 {
     push_status(board, registers.sp, before.byte(), registers.pc);
     registers.sp = registers.sp.wrapping_sub(3);

@@ -1,6 +1,6 @@
 // The choice of a jump, a call or a return.
 ghost use Rattle.std.specs.Prelude.{◌≡◌};
-ghost use Rattle.machine.specs.Model.{reach};
+ghost use Rattle.machine.specs.Effects.{Acts};
 ghost use Rattle.machine.specs.Instructions.{directed};
 
 use crate::calls::{call, call_by_bc, call_by_table, call_fixed, interrupt_softly};
@@ -15,8 +15,7 @@ use registers::flags::Flags;
 
 /// Executes a jump, a call or a return, with the flags as they were before the instruction.
 pub fn direct<B: Board>(registers: &mut Registers, board: &mut B, instruction: Jump, before: Flags)
-    ensures after { reach registers.new (B.Board.cells board.new) ≡ directed before instruction (reach registers.old (B.Board.cells board.old)) }
-    ensures keeps { B.Board.rest board.new ≡ B.Board.rest board.old }
+    ensures { Acts B.Board (directed before instruction) (registers.old, board.old) (registers.new, board.new) }
 {
     match instruction {
         Jump::Jmp => jump(registers, board),

@@ -3,6 +3,7 @@ pub mod Registers
 pub mod Operands
 pub mod Model
 pub mod Of
+pub mod Effects
 pub mod Transfer
 pub mod Arithmetic
 pub mod Control

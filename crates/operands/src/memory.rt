@@ -1,5 +1,6 @@
 // Words in memory and on the stack, and the data bytes of an instruction, which PC is past already.
 ghost use Rattle.std.specs.Prelude.{◌≡◌};
+ghost use Rattle.machine.specs.Effects.{Writes};
 ghost use Rattle.machine.specs.Words.{word_at, pushed};
 ghost use Rattle.machine.specs.Operands.{last_byte, byte_before, data_word, working};
 ghost use Rattle.machine.specs.Control.{status_pushed};
@@ -17,8 +18,7 @@ pub fn read_word<B: Board>(board: &B, address: u16) -> u16
 
 // The high byte is stored first.
 pub fn push_word<B: Board>(board: &mut B, sp: u16, word: u16)
-    ensures after { B.Board.cells board.new ≡ pushed sp word (B.Board.cells board.old) }
-    ensures keeps { B.Board.rest board.new ≡ B.Board.rest board.old }
+    ensures { Writes B.Board (pushed sp word) board.old board.new }
 {
     let [high, low] = word.to_be_bytes();
     board.write(sp.wrapping_sub(1), high);
@@ -27,8 +27,7 @@ pub fn push_word<B: Board>(board: &mut B, sp: u16, word: u16)
 
 /// PSW and PC go to the stack as an interrupt begins: PSW first, then PC, its high byte first.
 pub fn push_status<B: Board>(board: &mut B, sp: u16, psw: u8, pc: u16)
-    ensures after { B.Board.cells board.new ≡ status_pushed sp psw pc (B.Board.cells board.old) }
-    ensures keeps { B.Board.rest board.new ≡ B.Board.rest board.old }
+    ensures { Writes B.Board (status_pushed sp psw pc) board.old board.new }
 {
     let [high, low] = pc.to_be_bytes();
     board.write(sp.wrapping_sub(1), psw);

@@ -1,6 +1,6 @@
 // Transfers of a byte.
 ghost use Rattle.std.specs.Prelude.{◌≡◌};
-ghost use Rattle.machine.specs.Model.{reach};
+ghost use Rattle.machine.specs.Effects.{Acts, Writes};
 ghost use Rattle.machine.specs.Transfer.{to_r1, from_r1, direct_loaded, direct_stored, immediate as byte_immediate, working_immediate, indirect_immediate, working_loaded, working_stored, indirect_loaded, indirect_stored, block_moved, block_step};
 
 use crate::named::{get_r1, set_r1};
@@ -41,8 +41,7 @@ pub(crate) fn load_direct<B: Board>(registers: &mut Registers, board: &B, regist
 
 /// MOV word,r.
 pub(crate) fn store_direct<B: Board>(registers: &Registers, board: &mut B, register: ByteRegister)
-    ensures after { B.Board.cells board.new ≡ direct_stored register registers.now (B.Board.cells board.old) }
-    ensures keeps { B.Board.rest board.new ≡ B.Board.rest board.old }
+    ensures { Writes B.Board (direct_stored register registers.now) board.old board.new }
 {
     let address = read_data_word(registers, board);
     board.write(address, registers.main.get(register));
@@ -79,8 +78,7 @@ pub(crate) fn load_immediate<B: Board>(
 
 /// MVIW wa,byte.
 pub(crate) fn store_working_immediate<B: Board>(registers: &Registers, board: &mut B)
-    ensures after { B.Board.cells board.new ≡ working_immediate registers.now (B.Board.cells board.old) }
-    ensures keeps { B.Board.rest board.new ≡ B.Board.rest board.old }
+    ensures { Writes B.Board (working_immediate registers.now) board.old board.new }
 {
     let address = working_address(registers, first_data_byte(registers, board));
     let byte = data_byte(registers, board);
@@ -93,8 +91,7 @@ pub(crate) fn store_indirect_immediate<B: Board>(
     board: &mut B,
     pair: WordRegister,
 )
-    ensures after { B.Board.cells board.new ≡ indirect_immediate pair registers.now (B.Board.cells board.old) }
-    ensures keeps { B.Board.rest board.new ≡ B.Board.rest board.old }
+    ensures { Writes B.Board (indirect_immediate pair registers.now) board.old board.new }
 {
     let byte = data_byte(registers, board);
     board.write(get_word(registers, pair), byte);
@@ -111,8 +108,7 @@ pub(crate) fn load_working<B: Board>(registers: &mut Registers, board: &B)
 
 /// STAW wa.
 pub(crate) fn store_working<B: Board>(registers: &Registers, board: &mut B)
-    ensures after { B.Board.cells board.new ≡ working_stored registers.now (B.Board.cells board.old) }
-    ensures keeps { B.Board.rest board.new ≡ B.Board.rest board.old }
+    ensures { Writes B.Board (working_stored registers.now) board.old board.new }
 {
     let address = working_address(registers, data_byte(registers, board));
     board.write(address, registers.main.a);
@@ -129,8 +125,7 @@ pub(crate) fn load_indirect<B: Board>(registers: &mut Registers, board: &B, plac
 
 /// STAX rpa2.
 pub(crate) fn store_indirect<B: Board>(registers: &mut Registers, board: &mut B, place: Rpa2)
-    ensures after { reach registers.new (B.Board.cells board.new) ≡ indirect_stored place (reach registers.old (B.Board.cells board.old)) }
-    ensures keeps { B.Board.rest board.new ≡ B.Board.rest board.old }
+    ensures { Acts B.Board (indirect_stored place) (registers.old, board.old) (registers.new, board.new) }
 {
     let address = rpa2_address(registers, board, place);
     board.write(address, registers.main.a);
@@ -139,8 +134,7 @@ pub(crate) fn store_indirect<B: Board>(registers: &mut Registers, board: &mut B,
 
 /// BLOCK: one byte of it.
 pub(crate) fn move_block<B: Board>(registers: &mut Registers, board: &mut B)
-    ensures after { reach registers.new (B.Board.cells board.new) ≡ block_step (reach registers.old (B.Board.cells board.old)) }
-    ensures keeps { B.Board.rest board.new ≡ B.Board.rest board.old }
+    ensures { Acts B.Board block_step (registers.old, board.old) (registers.new, board.new) }
 {
     let byte = board.read(get_word(registers, WordRegister::Hl));
     board.write(get_word(registers, WordRegister::De), byte);

@@ -1,6 +1,6 @@
 // The choice of a transfer.
 ghost use Rattle.std.specs.Prelude.{◌≡◌};
-ghost use Rattle.machine.specs.Model.{reach};
+ghost use Rattle.machine.specs.Effects.{Acts};
 ghost use Rattle.machine.specs.Instructions.{transferred};
 
 use crate::bytes::{
@@ -24,8 +24,7 @@ pub fn transfer<B: Board>(
     instruction: Transfer,
     before: Flags,
 )
-    ensures after { reach registers.new (B.Board.cells board.new) ≡ transferred before instruction (reach registers.old (B.Board.cells board.old)) }
-    ensures keeps { B.Board.rest board.new ≡ B.Board.rest board.old }
+    ensures { Acts B.Board (transferred before instruction) (registers.old, board.old) (registers.new, board.new) }
 {
     match instruction {
         Transfer::MovToR1(r1) => move_to_r1(registers, r1),

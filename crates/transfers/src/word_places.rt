@@ -1,5 +1,6 @@
 // The places in memory that rpa3 names, what their use makes of the pairs, and a word stored.
 ghost use Rattle.std.specs.Prelude.{◌≡◌};
+ghost use Rattle.machine.specs.Effects.{Writes};
 ghost use Rattle.machine.specs.Words.{word_stored};
 ghost use Rattle.machine.specs.Operands.{rpa3_place, rpa3_used};
 
@@ -38,8 +39,7 @@ pub(crate) fn use_rpa3(registers: &mut Registers, place: Rpa3)
 
 // The low byte is stored first.
 pub(crate) fn write_word<B: Board>(board: &mut B, address: u16, word: u16)
-    ensures after { B.Board.cells board.new ≡ word_stored address word (B.Board.cells board.old) }
-    ensures keeps { B.Board.rest board.new ≡ B.Board.rest board.old }
+    ensures { Writes B.Board (word_stored address word) board.old board.new }
 {
     let [high, low] = word.to_be_bytes();
     board.write(address, low);

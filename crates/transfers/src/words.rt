@@ -1,6 +1,6 @@
 // Transfers of a word.
 ghost use Rattle.std.specs.Prelude.{◌≡◌};
-ghost use Rattle.machine.specs.Model.{reach};
+ghost use Rattle.machine.specs.Effects.{Acts, Writes};
 ghost use Rattle.machine.specs.Transfer.{from_ea, to_ea, word_loaded, word_saved, ea_loaded, ea_stored, word_pushed, word_popped, word_immediate, from_table};
 
 use crate::word_places::{rpa3_address, use_rpa3, write_word};
@@ -37,8 +37,7 @@ pub(crate) fn load_word<B: Board>(registers: &mut Registers, board: &B, pair: Wo
 
 /// SSPD, SBCD, SDED and SHLD word.
 pub(crate) fn store_word<B: Board>(registers: &Registers, board: &mut B, pair: WordRegister)
-    ensures after { B.Board.cells board.new ≡ word_saved pair registers.now (B.Board.cells board.old) }
-    ensures keeps { B.Board.rest board.new ≡ B.Board.rest board.old }
+    ensures { Writes B.Board (word_saved pair registers.now) board.old board.new }
 {
     let address = read_data_word(registers, board);
     write_word(board, address, get_word(registers, pair));
@@ -55,8 +54,7 @@ pub(crate) fn load_ea<B: Board>(registers: &mut Registers, board: &B, place: Rpa
 
 /// STEAX rpa3.
 pub(crate) fn store_ea<B: Board>(registers: &mut Registers, board: &mut B, place: Rpa3)
-    ensures after { reach registers.new (B.Board.cells board.new) ≡ ea_stored place (reach registers.old (B.Board.cells board.old)) }
-    ensures keeps { B.Board.rest board.new ≡ B.Board.rest board.old }
+    ensures { Acts B.Board (ea_stored place) (registers.old, board.old) (registers.new, board.new) }
 {
     let address = rpa3_address(registers, board, place);
     write_word(board, address, registers.ea);
@@ -65,8 +63,7 @@ pub(crate) fn store_ea<B: Board>(registers: &mut Registers, board: &mut B, place
 
 /// PUSH rp1.
 pub(crate) fn push<B: Board>(registers: &mut Registers, board: &mut B, pair: WordRegister)
-    ensures after { reach registers.new (B.Board.cells board.new) ≡ word_pushed pair (reach registers.old (B.Board.cells board.old)) }
-    ensures keeps { B.Board.rest board.new ≡ B.Board.rest board.old }
+    ensures { Acts B.Board (word_pushed pair) (registers.old, board.old) (registers.new, board.new) }
 {
     push_word(board, registers.sp, get_word(registers, pair));
     registers.sp = registers.sp.wrapping_sub(2);
