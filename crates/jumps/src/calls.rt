@@ -63,7 +63,7 @@ pub(crate) fn call_by_table<B: Board>(registers: &mut Registers, board: &mut B, 
 pub(crate) fn interrupt_softly<B: Board>(registers: &mut Registers, board: &mut B, before: Flags)
     ensures { Acts B.Board (soft_interrupted before) (registers.old, board.old) (registers.new, board.new) }
 {
-    push_status(board, registers.sp, before.byte(), registers.pc);
+    push_status(board, registers.sp, u8::from(before), registers.pc);
     registers.sp = registers.sp.wrapping_sub(3);
     registers.pc = SOFT_VECTOR;
 }

@@ -9,7 +9,8 @@ use crate::targets::{
     return_from_interrupt,
 };
 use board::Board;
-use machine::{Jump, WordRegister};
+use isa::Jump;
+use machine::WordRegister;
 use registers::file::Registers;
 use registers::flags::Flags;
 

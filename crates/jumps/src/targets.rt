@@ -61,6 +61,6 @@ pub(crate) fn return_from_interrupt<B: Board>(registers: &mut Registers, board: 
     ensures { registers.new ≡ returned_from_interrupt (B.Board.cells board.now) registers.old }
 {
     registers.pc = read_word(board, registers.sp);
-    registers.flags = Flags::from_byte(board.read(registers.sp.wrapping_add(2)));
+    registers.flags = Flags::from(board.read(registers.sp.wrapping_add(2)));
     registers.sp = registers.sp.wrapping_add(3);
 }

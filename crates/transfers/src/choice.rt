@@ -13,7 +13,7 @@ use crate::words::{
     store_ea, store_word,
 };
 use board::Board;
-use machine::Transfer;
+use isa::Transfer;
 use registers::file::Registers;
 use registers::flags::Flags;
 
