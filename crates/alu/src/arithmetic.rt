@@ -5,7 +5,7 @@ ghost use Rattle.alu.specs.Sums.{carried};
 ghost use Rattle.alu.specs.Widths.{whole};
 
 use crate::operation::Operation;
-use crate::sums::{add, subtract};
+use crate::sums::Operands;
 use crate::width::Width;
 use registers::flags::Flags;
 
@@ -15,10 +15,7 @@ pub fn operate(operation: Operation, width: Width, a: u16, b: u16, flags: &mut F
     ensures bound { result < whole width }
     ensures after { flags.new ≡ flagged operation (operated operation width a b flags.old) flags.old }
 {
-    let modulus = width.modulus();
-    let a = (u32::from(a) % modulus) as u16;
-    let b = (u32::from(b) % modulus) as u16;
-    let value = form(operation, width, a, b, flags);
+    let value = form(operation, Operands::low(width, a, b), flags);
     flags.zero = value == 0;
     flags.skip = operation.skips(flags.zero, flags.carry);
     value
@@ -33,25 +30,23 @@ pub fn operate_byte(operation: Operation, a: u8, b: u8, flags: &mut Flags) -> u8
 }
 
 // What an operation forms; a bitwise one leaves HC and CY.
-fn form(operation: Operation, width: Width, a: u16, b: u16, flags: &mut Flags) -> u16
-    requires a { a < whole width }
-    requires b { b < whole width }
-    ensures value { result ≡ (formed operation width a b flags.old).value }
-    ensures bound { result < whole width }
-    ensures after { flags.new ≡ carried (formed operation width a b flags.old) flags.old }
+fn form(operation: Operation, operands: Operands, flags: &mut Flags) -> u16
+    ensures value { result ≡ (formed operation operands.width operands.a operands.b flags.old).value }
+    ensures bound { result < whole operands.width }
+    ensures after { flags.new ≡ carried (formed operation operands.width operands.a operands.b flags.old) flags.old }
 {
     match operation {
-        Operation::And | Operation::On | Operation::Off => a & b,
-        Operation::Xor => a ^ b,
-        Operation::Or => a | b,
-        Operation::Add | Operation::AddSkipNoCarry => add(width, a, b, false, flags),
-        Operation::AddWithCarry => add(width, a, b, flags.carry, flags),
+        Operation::And | Operation::On | Operation::Off => operands.a & operands.b,
+        Operation::Xor => operands.a ^ operands.b,
+        Operation::Or => operands.a | operands.b,
+        Operation::Add | Operation::AddSkipNoCarry => operands.add(false, flags),
+        Operation::AddWithCarry => operands.add(flags.carry, flags),
         Operation::Sub
         | Operation::SubSkipNoBorrow
         | Operation::Less
         | Operation::NotEqual
-        | Operation::Equal => subtract(width, a, b, false, flags),
-        Operation::Greater => subtract(width, a, b, true, flags),
-        Operation::SubWithCarry => subtract(width, a, b, flags.carry, flags),
+        | Operation::Equal => operands.subtract(false, flags),
+        Operation::Greater => operands.subtract(true, flags),
+        Operation::SubWithCarry => operands.subtract(flags.carry, flags),
     }
 }

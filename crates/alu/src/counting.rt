@@ -1,28 +1,28 @@
 // A byte counted up or down by one, and negated.
 ghost use Rattle.std.specs.Prelude.{◌≡◌};
-ghost use Rattle.alu.specs.Counting.{counted_up, counted_down, counted, negated};
+ghost use Rattle.alu.specs.Counting.{counted_by, counted, negated};
 
-use crate::sums::{add, subtract};
-use crate::width::Width;
+use crate::sums::Operands;
 use registers::flags::Flags;
 
-/// One more than a byte. Sets Z, HC and CY; SK is the carry.
-pub fn increment(byte: u8, flags: &mut Flags) -> u8
-    ensures value { result ≡ (counted_up byte).value }
-    ensures after { flags.new ≡ counted (counted_up byte) flags.old }
-{
-    let value = add(Width::Byte, u16::from(byte), 1, false, flags);
-    flags.zero = value == 0;
-    flags.skip = flags.carry;
-    value as u8
+#[derive(Clone, Copy, PartialEq, Eq, Debug)]
+pub enum Count {
+    /// INR and INRW.
+    Up,
+    /// DCR and DCRW.
+    Down,
 }
 
-/// One less than a byte. Sets Z, HC and CY; SK is the borrow.
-pub fn decrement(byte: u8, flags: &mut Flags) -> u8
-    ensures value { result ≡ (counted_down byte).value }
-    ensures after { flags.new ≡ counted (counted_down byte) flags.old }
+/// One more or one less than a byte. Sets Z, HC and CY; SK is the carry or borrow.
+pub fn count_byte(count: Count, byte: u8, flags: &mut Flags) -> u8
+    ensures value { result ≡ (counted_by count byte).value }
+    ensures after { flags.new ≡ counted (counted_by count byte) flags.old }
 {
-    let value = subtract(Width::Byte, u16::from(byte), 1, false, flags);
+    let operands = Operands::bytes(byte, 1);
+    let value = match count {
+        Count::Up => operands.add(false, flags),
+        Count::Down => operands.subtract(false, flags),
+    };
     flags.zero = value == 0;
     flags.skip = flags.carry;
     value as u8

@@ -4,8 +4,7 @@ ghost use Rattle.alu.specs.Decimal.{high_correction, correction, adjusted, Decim
 ghost use Rattle.alu.specs.Digits.{high, low, digits};
 ghost use Rattle.alu.specs.Sums.{marked};
 
-use crate::sums::add;
-use crate::width::Width;
+use crate::sums::Operands;
 use registers::flags::Flags;
 
 /// Makes the sum of two packed decimal bytes, with the flags that its addition set, packed decimal again. Sets Z, HC and CY.
@@ -14,8 +13,8 @@ pub fn decimal_adjust(a: u8, flags: &mut Flags) -> u8
     ensures after { flags.new ≡ marked (adjusted a flags.old) flags.old.skip flags.old }
     ensures addition { DecimalAddition }
 {
-    let correction = u16::from(correct(a, flags.half, flags.carry));
-    let value = add(Width::Byte, u16::from(a), correction, false, flags);
+    let correction = correct(a, flags.half, flags.carry);
+    let value = Operands::bytes(a, correction).add(false, flags);
     flags.zero = value == 0;
     flags.carry = 0x60 <= correction;
     value as u8

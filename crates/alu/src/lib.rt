@@ -2,6 +2,7 @@
 #![tactic(auto)]
 
 mod arithmetic;
+mod bits;
 mod counting;
 mod digits;
 mod offsets;
@@ -12,10 +13,10 @@ mod sums;
 mod width;
 
 pub use arithmetic::{operate, operate_byte};
-pub use counting::{decrement, increment, negate};
+pub use counting::{Count, count_byte, negate};
 pub use digits::{decimal_adjust, rotate_digits_left, rotate_digits_right};
-pub use offsets::{extend_nine, extend_six};
-pub use operation::Operation;
+pub use offsets::extend;
+pub use operation::{NoSuchOperation, Operation};
 pub use products::{divide, multiply};
 pub use shifts::{Shift, shift_bits, shift_byte, shift_byte_and_skip};
 pub use width::Width;

@@ -1,19 +1,17 @@
 // The signed offsets of relative jumps.
-ghost use Rattle.std.specs.Prelude.{◌≡◌};
+ghost use Rattle.std.specs.Prelude.{◌≡◌, min};
 ghost use Rattle.alu.specs.Offsets.{signed};
 
-/// The low six bits of JR's byte as a signed number, -32 to 31.
-pub fn extend_six(code: u8) -> i16
-    ensures { result ≡ signed 6 code }
+/// The low bits of a code as a signed number: six of JR's byte, -32 to 31, and nine of JRE's two bytes, the first as the high one, -256 to 255.
+/// Of more than sixteen, all that a code has.
+pub fn extend<const BITS: u32>(code: u16) -> i16
+    ensures { result ≡ signed (min BITS 16) code }
 {
-    let low = i16::from(code % 64);
-    if low < 32 { low } else { low - 64 }
-}
-
-/// The low nine bits of JRE's two bytes, the first as the high one, as a signed number, -256 to 255.
-pub fn extend_nine(code: u16) -> i16
-    ensures { result ≡ signed 9 code }
-{
-    let low = (code % 512) as i16;
-    if low < 256 { low } else { low - 512 }
+    let modulus = 1_u32 << BITS.min(16);
+    let low = u32::from(code) % modulus;
+    if 2 * low < modulus {
+        low as i16
+    } else {
+        (low as i32 - modulus as i32) as i16
+    }
 }

@@ -1,11 +1,14 @@
 // The fifteen operations by name and number.
-ghost use Rattle.std.specs.Prelude.{◌≡◌};
-ghost use Rattle.alu.specs.Naming.{named, storing};
+ghost use Rattle.std.specs.Prelude.{◌≡◌, ◌<◌, Some};
+ghost use Rattle.alu.specs.Naming.{Decodes, named, operation_code, refusal, storing};
 ghost use Rattle.alu.specs.Operations.{skipping};
+
+use std::error::Error;
+use std::fmt;
 
 #[derive(Clone, Copy, PartialEq, Eq, Debug)]
 pub enum Operation {
-    And,
+    And = 1,
     Xor,
     Or,
     AddSkipNoCarry,
@@ -22,43 +25,70 @@ pub enum Operation {
     Equal,
 }
 
-impl Operation {
-    /// The operation of a code, 1 to 15.
-    pub fn from_code(code: u8) -> Option<Operation>
-        ensures { result ≡ named code }
-    {
+/// A code that is no operation's.
+#[derive(Clone, Copy, PartialEq, Eq, Debug)]
+pub struct NoSuchOperation(pub u8);
+
+impl TryFrom<u8> for Operation {
+    type Error = NoSuchOperation;
+
+    ghost try_from_gives = { Decodes };
+
+    fn try_from(code: u8) -> Result<Self, NoSuchOperation> {
         match code {
-            1 => Some(Operation::And),
-            2 => Some(Operation::Xor),
-            3 => Some(Operation::Or),
-            4 => Some(Operation::AddSkipNoCarry),
-            5 => Some(Operation::Greater),
-            6 => Some(Operation::SubSkipNoBorrow),
-            7 => Some(Operation::Less),
-            8 => Some(Operation::Add),
-            9 => Some(Operation::On),
-            10 => Some(Operation::AddWithCarry),
-            11 => Some(Operation::Off),
-            12 => Some(Operation::Sub),
-            13 => Some(Operation::NotEqual),
-            14 => Some(Operation::SubWithCarry),
-            15 => Some(Operation::Equal),
-            _ => None,
+            1 => Ok(Operation::And),
+            2 => Ok(Operation::Xor),
+            3 => Ok(Operation::Or),
+            4 => Ok(Operation::AddSkipNoCarry),
+            5 => Ok(Operation::Greater),
+            6 => Ok(Operation::SubSkipNoBorrow),
+            7 => Ok(Operation::Less),
+            8 => Ok(Operation::Add),
+            9 => Ok(Operation::On),
+            10 => Ok(Operation::AddWithCarry),
+            11 => Ok(Operation::Off),
+            12 => Ok(Operation::Sub),
+            13 => Ok(Operation::NotEqual),
+            14 => Ok(Operation::SubWithCarry),
+            15 => Ok(Operation::Equal),
+            _ => Err(NoSuchOperation(code)),
         }
+    }
+}
+
+impl fmt::Display for NoSuchOperation {
+    ghost output = { λ e. Some (refusal e.0) };
+
+    fn fmt<W: fmt::Write>(&self, f: &mut fmt::Formatter<W>) -> fmt::Result {
+        write!(f, "no operation has code {}", self.0)
+    }
+}
+
+impl Error for NoSuchOperation {}
+
+impl Operation {
+    /// The operation's code, 1 to 15.
+    pub fn code(self) -> u8
+        ensures value { result ≡ operation_code self }
+        ensures bound { result < 16 }
+        ensures back { named result ≡ Some self }
+    {
+        self as u8
     }
 
     /// Whether the value formed is stored; a comparison or a test only sets flags.
     pub fn stores(self) -> bool
         ensures { result ≡ storing self }
     {
-        match self {
-            Operation::And | Operation::Xor | Operation::Or => true,
-            Operation::Add | Operation::AddWithCarry | Operation::AddSkipNoCarry => true,
-            Operation::Sub | Operation::SubWithCarry | Operation::SubSkipNoBorrow => true,
-            Operation::Greater | Operation::Less => false,
-            Operation::On | Operation::Off => false,
-            Operation::NotEqual | Operation::Equal => false,
-        }
+        !matches!(
+            self,
+            Operation::Greater
+                | Operation::Less
+                | Operation::NotEqual
+                | Operation::Equal
+                | Operation::On
+                | Operation::Off
+        )
     }
 
     // Whether the next instruction is skipped, by Z and CY as the operation sets or leaves them.

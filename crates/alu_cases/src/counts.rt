@@ -1,28 +1,21 @@
 // Counting up and down by one, and negation.
-use alu::{decrement, increment, negate};
+use alu::{Count, count_byte, negate};
 use registers::flags::Flags;
 use std::process::Abort;
 
-fn increase(rt: &impl Abort, cases: &[(u8, u8, u8, u8)]) {
+fn hold(rt: &impl Abort, count: Count, cases: &[(u8, u8, u8, u8)]) {
     for (byte, before, value, after) in cases {
         let mut flags = Flags::from_byte(*before);
-        assert_eq!(rt; increment(*byte, &mut flags), *value);
-        assert_eq!(rt; flags.byte(), *after);
-    }
-}
-
-fn decrease(rt: &impl Abort, cases: &[(u8, u8, u8, u8)]) {
-    for (byte, before, value, after) in cases {
-        let mut flags = Flags::from_byte(*before);
-        assert_eq!(rt; decrement(*byte, &mut flags), *value);
+        assert_eq!(rt; count_byte(count, *byte, &mut flags), *value);
         assert_eq!(rt; flags.byte(), *after);
     }
 }
 
 #[test]
 fn increments(rt: HostRuntime) {
-    increase(
+    hold(
         &rt,
+        Count::Up,
         &[
             (0x00, 0x61, 0x01, 0x00),
             (0x0f, 0x00, 0x10, 0x10),
@@ -34,8 +27,9 @@ fn increments(rt: HostRuntime) {
 
 #[test]
 fn decrements(rt: HostRuntime) {
-    decrease(
+    hold(
         &rt,
+        Count::Down,
         &[
             (0x02, 0x61, 0x01, 0x00),
             (0x01, 0x00, 0x00, 0x40),

@@ -1,10 +1,11 @@
 // The operations by code, and which store.
-use alu::Operation;
+use alu::{NoSuchOperation, Operation};
 use std::process::Abort;
 
 fn hold(rt: &impl Abort, cases: &[(u8, Operation, bool)]) {
     for (code, operation, stores) in cases {
-        assert_eq!(rt; Operation::from_code(*code), Some(*operation));
+        assert_eq!(rt; Operation::try_from(*code), Ok(*operation));
+        assert_eq!(rt; operation.code(), *code);
         assert_eq!(rt; operation.stores(), *stores);
     }
 }
@@ -35,7 +36,7 @@ fn codes(rt: HostRuntime) {
 
 #[test]
 fn no_operation(rt: HostRuntime) {
-    assert_eq!(rt; Operation::from_code(0), None);
-    assert_eq!(rt; Operation::from_code(16), None);
-    assert_eq!(rt; Operation::from_code(255), None);
+    assert_eq!(rt; Operation::try_from(0), Err(NoSuchOperation(0)));
+    assert_eq!(rt; Operation::try_from(16), Err(NoSuchOperation(16)));
+    assert_eq!(rt; Operation::try_from(255), Err(NoSuchOperation(255)));
 }
