@@ -5,9 +5,9 @@ use std::process::Abort;
 
 fn hold(rt: &impl Abort, count: Count, cases: &[(u8, u8, u8, u8)]) {
     for (byte, before, value, after) in cases {
-        let mut flags = Flags::from_byte(*before);
+        let mut flags = Flags::from(*before);
         assert_eq!(rt; count_byte(count, *byte, &mut flags), *value);
-        assert_eq!(rt; flags.byte(), *after);
+        assert_eq!(rt; u8::from(flags), *after);
     }
 }
 

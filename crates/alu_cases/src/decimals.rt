@@ -5,16 +5,16 @@ use std::process::Abort;
 
 fn adjust(rt: &impl Abort, cases: &[(u8, u8, u8, u8)]) {
     for (a, before, value, after) in cases {
-        let mut flags = Flags::from_byte(*before);
+        let mut flags = Flags::from(*before);
         assert_eq!(rt; decimal_adjust(*a, &mut flags), *value);
-        assert_eq!(rt; flags.byte(), *after);
+        assert_eq!(rt; u8::from(flags), *after);
     }
 }
 
 // The decimal sum of two packed bytes and CY, and whether CY is set then.
 fn add(rt: &impl Abort, cases: &[(u8, u8, u8, u8, bool)]) {
     for (a, b, carry, sum, carries) in cases {
-        let mut flags = Flags::from_byte(*carry);
+        let mut flags = Flags::from(*carry);
         let binary = operate_byte(Operation::AddWithCarry, *a, *b, &mut flags);
         assert_eq!(rt; decimal_adjust(binary, &mut flags), *sum);
         assert_eq!(rt; flags.carry, *carries);

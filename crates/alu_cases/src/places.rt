@@ -5,25 +5,25 @@ use std::process::Abort;
 
 fn move_bytes(rt: &impl Abort, cases: &[(Shift, u8, u8, u8, u8)]) {
     for (shift, byte, before, moved, after) in cases {
-        let mut flags = Flags::from_byte(*before);
+        let mut flags = Flags::from(*before);
         assert_eq!(rt; shift_byte(*shift, *byte, &mut flags), *moved);
-        assert_eq!(rt; flags.byte(), *after);
+        assert_eq!(rt; u8::from(flags), *after);
     }
 }
 
 fn move_and_skip(rt: &impl Abort, cases: &[(Shift, u8, u8, u8, u8)]) {
     for (shift, byte, before, moved, after) in cases {
-        let mut flags = Flags::from_byte(*before);
+        let mut flags = Flags::from(*before);
         assert_eq!(rt; shift_byte_and_skip(*shift, *byte, &mut flags), *moved);
-        assert_eq!(rt; flags.byte(), *after);
+        assert_eq!(rt; u8::from(flags), *after);
     }
 }
 
 fn move_words(rt: &impl Abort, cases: &[(Shift, u16, u8, u16, u8)]) {
     for (shift, value, before, moved, after) in cases {
-        let mut flags = Flags::from_byte(*before);
+        let mut flags = Flags::from(*before);
         assert_eq!(rt; shift_bits(*shift, Width::Word, *value, &mut flags), *moved);
-        assert_eq!(rt; flags.byte(), *after);
+        assert_eq!(rt; u8::from(flags), *after);
     }
 }
 
@@ -76,7 +76,7 @@ fn words(rt: HostRuntime) {
 
 #[test]
 fn low_bits(rt: HostRuntime) {
-    let mut flags = Flags::from_byte(0);
+    let mut flags = Flags::from(0);
     assert_eq!(rt;
         shift_bits(Shift::Right, Width::Byte, 0x0102, &mut flags),
         0x01
@@ -85,5 +85,5 @@ fn low_bits(rt: HostRuntime) {
         shift_bits(Shift::Left, Width::Byte, 0xff01, &mut flags),
         0x02
     );
-    assert_eq!(rt; flags.byte(), 0x00);
+    assert_eq!(rt; u8::from(flags), 0x00);
 }

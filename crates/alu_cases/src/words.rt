@@ -5,12 +5,12 @@ use std::process::Abort;
 
 fn hold(rt: &impl Abort, cases: &[(Operation, u16, u16, u8, u16, u8)]) {
     for (operation, a, b, before, value, after) in cases {
-        let mut flags = Flags::from_byte(*before);
+        let mut flags = Flags::from(*before);
         assert_eq!(rt;
             operate(*operation, Width::Word, *a, *b, &mut flags),
             *value
         );
-        assert_eq!(rt; flags.byte(), *after);
+        assert_eq!(rt; u8::from(flags), *after);
     }
 }
 
@@ -111,15 +111,15 @@ fn comparisons(rt: HostRuntime) {
 // Of operands past the width the low bits are taken.
 #[test]
 fn low_bits(rt: HostRuntime) {
-    let mut flags = Flags::from_byte(0);
+    let mut flags = Flags::from(0);
     assert_eq!(rt;
         operate(Operation::Add, Width::Byte, 0x01ff, 0x0201, &mut flags),
         0x00
     );
-    assert_eq!(rt; flags.byte(), 0x51);
+    assert_eq!(rt; u8::from(flags), 0x51);
     assert_eq!(rt;
         operate(Operation::Or, Width::Byte, 0xff00, 0x0100, &mut flags),
         0x00
     );
-    assert_eq!(rt; flags.byte(), 0x51);
+    assert_eq!(rt; u8::from(flags), 0x51);
 }
