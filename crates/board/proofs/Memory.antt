@@ -1,7 +1,7 @@
 -- A flat board's cells and the rest that it keeps are its memory. Assumes nothing.
-use Rattle.std.proofs.Common.{◌≡◌, ℕ, ◌<◌, List, ◌++◌, get_or, take, drop, set, sym, ap, ◌∙◌, arith}
+use Rattle.std.proofs.Common.{◌≡◌, ℕ, ◌<◌, List, ◌++◌, get_or, take, drop, sym, ap, ◌∙◌, arith}
 use Rattle.std.proofs.lemmas.List.FromFn.{fill_by_all}
-use Rattle.std.proofs.lemmas.List.{length-take, get_or-take, take-append-drop, length-set, drop-set-lt}
+use Rattle.std.proofs.lemmas.List.{length-take, get_or-take, take-append-drop}
 use Rattle.std.proofs.lemmas.Bool.Decides.{nat_tests}
 use Rattle.board.specs.Flat.{reach, flat_cells, flat_rest, flat_memory}
 
@@ -13,7 +13,3 @@ pub memory_back : (memory : List ℕ) (below : ℕ) → memory ≡ flat_memory (
 memory_back memory below =
     let front = fill_by_all (flat_cells memory below).at (take 65536 memory) (reach memory) 0 (omega (arith, length-take 65536 memory)) (reached memory below) in
     sym (take-append-drop 65536 memory) ∙ ap (λ bytes. bytes ++ drop 65536 memory) front
-
--- a byte set at an address leaves the rest
-pub rest_set : (memory : List ℕ) (below a byte : ℕ) → a < 65536 → flat_rest (set memory a byte) below ≡ flat_rest memory below
-rest_set memory below a byte h = λ i. record { size = length-set memory a byte i; below = below; unused = drop-set-lt 65536 memory a byte h i }

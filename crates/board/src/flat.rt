@@ -45,17 +45,15 @@ impl Board for FlatBoard {
 
     fn read(&self, address: u16) -> u8 {
         let at = usize::from(address);
-        if at < self.memory.len() {
-            self.memory[at]
-        } else {
-            ABSENT
-        }
+        self.memory.get(at).copied().unwrap_or(ABSENT)
     }
 
+    #[tactic(auto, unfolding(crate::specs::Cells::written))]
     fn write(&mut self, address: u16, byte: u8) {
-        let at = usize::from(address);
-        if at < self.memory.len() && u32::from(address) >= self.fixed_below {
-            self.memory[at] = byte;
+        if u32::from(address) >= self.fixed_below
+            && let Some(cell) = self.memory.get_mut(usize::from(address))
+        {
+            *cell = byte;
         }
     }
 }

@@ -50,13 +50,14 @@ impl Board for MaskRomBoard {
         let at = usize::from(address);
         if at >= RAM_START {
             self.ram[at - RAM_START]
-        } else if at < self.rom.len() && at < ROM_SIZE {
-            self.rom[at]
+        } else if at < ROM_SIZE {
+            self.rom.get(at).copied().unwrap_or(ABSENT)
         } else {
             ABSENT
         }
     }
 
+    #[tactic(auto, unfolding(crate::specs::Cells::written))]
     fn write(&mut self, address: u16, byte: u8) {
         let at = usize::from(address);
         if at >= RAM_START {

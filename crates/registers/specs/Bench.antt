@@ -17,14 +17,7 @@ abbrev pub zero_registers : Registers
 zero_registers = record { main = zero_bank; alternate = zero_bank; ea = 0; ea_alternate = 0; sp = 0; pc = 0; flags = no_flags }
 
 abbrev pub core_with : Core → Registers → Core
-core_with core registers = record {
-  registers = registers;
-  mkl = core.mkl;
-  mkh = core.mkh;
-  interrupts = core.interrupts;
-  halted = core.halted;
-  after_ei = core.after_ei;
-}
+core_with core registers = record core { registers = registers }
 
 -- all registers zero, every line masked, interrupts disabled, not halted
 abbrev pub bench_core : Core

@@ -48,14 +48,14 @@ held H k = k.h
 held L k = k.l
 
 abbrev pub holding : ByteRegister → ℕ → Bank → Bank
-holding V x k = record { v = x; a = k.a; b = k.b; c = k.c; d = k.d; e = k.e; h = k.h; l = k.l }
-holding A x k = record { v = k.v; a = x; b = k.b; c = k.c; d = k.d; e = k.e; h = k.h; l = k.l }
-holding B x k = record { v = k.v; a = k.a; b = x; c = k.c; d = k.d; e = k.e; h = k.h; l = k.l }
-holding C x k = record { v = k.v; a = k.a; b = k.b; c = x; d = k.d; e = k.e; h = k.h; l = k.l }
-holding D x k = record { v = k.v; a = k.a; b = k.b; c = k.c; d = x; e = k.e; h = k.h; l = k.l }
-holding E x k = record { v = k.v; a = k.a; b = k.b; c = k.c; d = k.d; e = x; h = k.h; l = k.l }
-holding H x k = record { v = k.v; a = k.a; b = k.b; c = k.c; d = k.d; e = k.e; h = x; l = k.l }
-holding L x k = record { v = k.v; a = k.a; b = k.b; c = k.c; d = k.d; e = k.e; h = k.h; l = x }
+holding V x k = record k { v = x }
+holding A x k = record k { a = x }
+holding B x k = record k { b = x }
+holding C x k = record k { c = x }
+holding D x k = record k { d = x }
+holding E x k = record k { e = x }
+holding H x k = record k { h = x }
+holding L x k = record k { l = x }
 
 -- the value of a register; of the PSW its byte
 abbrev pub value_of : RegisterName → Registers → ℕ
@@ -79,13 +79,13 @@ takes Psw x = nat_lt x 128 && x / 2 % 2 == 0
 
 -- the registers with one replaced
 abbrev pub with_value : RegisterName → ℕ → Registers → Registers
-with_value (Main r) x s = record { main = holding r x s.main; alternate = s.alternate; ea = s.ea; ea_alternate = s.ea_alternate; sp = s.sp; pc = s.pc; flags = s.flags }
-with_value (Alternate r) x s = record { main = s.main; alternate = holding r x s.alternate; ea = s.ea; ea_alternate = s.ea_alternate; sp = s.sp; pc = s.pc; flags = s.flags }
-with_value Ea x s = record { main = s.main; alternate = s.alternate; ea = x; ea_alternate = s.ea_alternate; sp = s.sp; pc = s.pc; flags = s.flags }
-with_value EaAlternate x s = record { main = s.main; alternate = s.alternate; ea = s.ea; ea_alternate = x; sp = s.sp; pc = s.pc; flags = s.flags }
-with_value Sp x s = record { main = s.main; alternate = s.alternate; ea = s.ea; ea_alternate = s.ea_alternate; sp = x; pc = s.pc; flags = s.flags }
-with_value Pc x s = record { main = s.main; alternate = s.alternate; ea = s.ea; ea_alternate = s.ea_alternate; sp = s.sp; pc = x; flags = s.flags }
-with_value Psw x s = record { main = s.main; alternate = s.alternate; ea = s.ea; ea_alternate = s.ea_alternate; sp = s.sp; pc = s.pc; flags = flags_of x }
+with_value (Main r) x s = record s { main = holding r x s.main }
+with_value (Alternate r) x s = record s { alternate = holding r x s.alternate }
+with_value Ea x s = record s { ea = x }
+with_value EaAlternate x s = record s { ea_alternate = x }
+with_value Sp x s = record s { sp = x }
+with_value Pc x s = record s { pc = x }
+with_value Psw x s = record s { flags = flags_of x }
 
 -- a register set, or refused where it does not take the value
 abbrev pub storing : RegisterName → ℕ → Registers → Result Registers RegisterFault

@@ -1,15 +1,8 @@
-use Rattle.std.proofs.Common.{arith, rules}
-use Rattle.board.specs.Cells.{written}
-use Rattle.board.proofs.Memory.{rest_set}
+use Rattle.std.proofs.Common.{◌<◌, arith, refl}
+use Rattle.std.proofs.lemmas.List.{length-set, drop-set-lt}
 use Rattle.board.proofs.flat.FlatBoardBoard.write.Goals as goal
 
-pub returns-then-from-self : goal.returns-then-from-self
-unfolding written
-returns-then-from-self c = record {
-  after = search rules;
-  keeps = rest_set c.args.self.now.memory.items c.args.self.now.fixed_below c.from-at.result c.args.byte (omega arith);
-}
-
-pub returns-else-at-len : goal.returns-else-at-len
-unfolding written
-returns-else-at-len c = search rules
+pub returns-in-Some-clause-keeps : goal.returns-in-Some-clause-keeps
+returns-in-Some-clause-keeps c =
+    let within : c.from-2.result < 65536 = omega arith in
+    rw (length-set, drop-set-lt) refl
