@@ -6,6 +6,7 @@ use Rattle.alu.specs.declared.operation.Operation.TheVariants.{And, Xor, Or, Add
 use Rattle.lines.specs.Numbers.{line_at}
 use Rattle.lines.specs.declared.line.Line.{Line}
 use Rattle.lines.specs.declared.line.Line.TheVariants.{Fst}
+use Rattle.registers.specs.Numbering.{byte_register}
 use Rattle.registers.specs.declared.bank.ByteRegister.{ByteRegister}
 use Rattle.registers.specs.declared.bank.ByteRegister.TheVariants as register
 use Rattle.isa.specs.declared.operands.R1.{R1}
@@ -28,15 +29,7 @@ use Rattle.isa.specs.declared.operands.Flag.{Flag}
 use Rattle.isa.specs.declared.operands.Flag.TheVariants as flag
 
 unfoldable pub register_at : ℕ → ByteRegister
-register_at n =
-    cond (n % 8 == 0) register.V (
-    cond (n % 8 == 1) register.A (
-    cond (n % 8 == 2) register.B (
-    cond (n % 8 == 3) register.C (
-    cond (n % 8 == 4) register.D (
-    cond (n % 8 == 5) register.E (
-    cond (n % 8 == 6) register.H (
-    register.L)))))))
+register_at n = byte_register (n % 8)
 
 unfoldable pub r1_at : ℕ → R1
 r1_at n =

@@ -1,5 +1,6 @@
 pub mod Special
 pub mod Codes
+pub mod Again
 pub mod Decoding
 pub mod Costs
 pub mod Encoding

@@ -4,9 +4,10 @@ ghost use Rattle.isa.specs.Codes.{operation_code};
 ghost use Rattle.isa.specs.declared.encoding.Opcode.{Opcode};
 ghost use Rattle.isa.specs.Encoding.{encoded, transfer_opcode, arithmetic_opcode, jump_opcode, special_opcode, control_opcode, one as one_byte, two as two_bytes, takes_a};
 
-use crate::codes::{operable, operation_code, readable, register_code, writable};
+use crate::codes::Operand;
 use crate::instructions::{Arithmetic, Control, Instruction, Jump, Special, Transfer};
 use crate::operands::Rp2;
+use crate::special::{operable, readable, writable};
 use alu::Operation;
 
 /// The bytes of a code that say which instruction it is.
@@ -47,9 +48,9 @@ impl Encode for Transfer {
         match self {
             Transfer::MovToR1(register) => one(0x18 + register.code()),
             Transfer::MovFromR1(register) => one(0x08 + register.code()),
-            Transfer::MovLoad(register) => two(0x70, 0x68 + register_code(register)),
-            Transfer::MovStore(register) => two(0x70, 0x78 + register_code(register)),
-            Transfer::Mvi(register) => one(0x68 + register_code(register)),
+            Transfer::MovLoad(register) => two(0x70, 0x68 + register.code()),
+            Transfer::MovStore(register) => two(0x70, 0x78 + register.code()),
+            Transfer::Mvi(register) => one(0x68 + register.code()),
             Transfer::Mviw => one(0x71),
             Transfer::Mvix(pair) => one(0x48 + pair.code()),
             Transfer::Staw => one(0x63),
@@ -81,33 +82,33 @@ impl Encode for Arithmetic {
         match self {
             Arithmetic::OperateA(operation, register) => two(
                 0x60,
-                0x80 + 8 * operation_code(operation) + register_code(register),
+                0x80 + 8 * operation.code() + register.code(),
             ),
             Arithmetic::OperateR(operation, register) if takes_a(operation) => two(
                 0x60,
-                8 * operation_code(operation) + register_code(register),
+                8 * operation.code() + register.code(),
             ),
             Arithmetic::OperateR(_, _) => None,
             Arithmetic::OperateX(operation, place) if place.code() < 8 => two(
                 0x70,
-                0x80 + 8 * operation_code(operation) + place.code(),
+                0x80 + 8 * operation.code() + place.code(),
             ),
             Arithmetic::OperateX(_, _) => None,
             Arithmetic::OperateByte(operation) => one(
-                operation_code(operation) / 2 * 16 + 0x06 + operation_code(operation) % 2,
+                operation.code() / 2 * 16 + 0x06 + operation.code() % 2,
             ),
             Arithmetic::OperateRByte(operation, register) => two(
                 0x74,
-                8 * operation_code(operation) + register_code(register),
+                8 * operation.code() + register.code(),
             ),
-            Arithmetic::OperateW(operation) => two(0x74, 0x80 + 8 * operation_code(operation)),
-            Arithmetic::OperateWByte(operation) if operation_code(operation) % 2 == 1 => one(
-                operation_code(operation) / 2 * 16 + 0x05,
+            Arithmetic::OperateW(operation) => two(0x74, 0x80 + 8 * operation.code()),
+            Arithmetic::OperateWByte(operation) if operation.code() % 2 == 1 => one(
+                operation.code() / 2 * 16 + 0x05,
             ),
             Arithmetic::OperateWByte(_) => None,
             Arithmetic::OperateEa(operation, pair) => two(
                 0x74,
-                0x84 + 8 * operation_code(operation) + pair.code(),
+                0x84 + 8 * operation.code() + pair.code(),
             ),
             Arithmetic::Eadd(register) => two(0x70, 0x40 + register.code()),
             Arithmetic::Esub(register) => two(0x70, 0x60 + register.code()),
@@ -183,7 +184,7 @@ impl Encode for Special {
             Special::MviSr2(_) => None,
             Special::OperateSr2(operation, special) if operable(special) => two(
                 0x64,
-                special / 8 * 128 + 8 * operation_code(operation) + special % 8,
+                special / 8 * 128 + 8 * operation.code() + special % 8,
             ),
             Special::OperateSr2(_, _) => None,
         }
@@ -199,8 +200,8 @@ impl Encode for Control {
             Control::Bit(_) => None,
             Control::Sk(flag) => two(0x48, 0x08 + flag.code()),
             Control::Skn(flag) => two(0x48, 0x18 + flag.code()),
-            Control::Skit(line) => two(0x48, 0x40 + line.number()),
-            Control::Sknit(line) => two(0x48, 0x60 + line.number()),
+            Control::Skit(line) => two(0x48, 0x40 + line.code()),
+            Control::Sknit(line) => two(0x48, 0x60 + line.code()),
             Control::Nop => one(0x00),
             Control::Ei => one(0xAA),
             Control::Di => one(0xBA),

@@ -8,6 +8,7 @@ mod decoding;
 mod encoding;
 mod instructions;
 mod operands;
+mod special;
 
 pub use decoding::{Undefined, decode};
 pub use encoding::Opcode;

@@ -1,0 +1,28 @@
+// Operation k, 1 to 15; 0, which no caller asks for, is read as 15.
+ghost use Rattle.std.proofs.Common.{rules};
+ghost use Rattle.isa.specs.Again.{operation_again};
+ghost use Rattle.isa.specs.Codes.{operation_at, operation_code};
+
+use crate::codes::Operand;
+use alu::Operation;
+
+#[tactic(auto, unfolding(crate::specs::Codes::operation_at))]
+impl Operand for Operation {
+    ghost limit = { 16 };
+
+    ghost at = { operation_at };
+
+    ghost code = { operation_code };
+
+    ghost again = { operation_again };
+
+    ghost low = { Prim.search rules };
+
+    fn at(bits: u8) -> Operation {
+        Operation::from_code(bits).unwrap_or(Operation::Equal)
+    }
+
+    fn code(self) -> u8 {
+        self as u8 + 1
+    }
+}
