@@ -1,5 +1,6 @@
 -- What a code names has that code: each operand is the one that its code names.
 use Rattle.std.specs.Prelude.{◌≡◌, refl}
+use Rattle.alu.specs.Naming.{operation_code}
 use Rattle.alu.specs.declared.operation.Operation.{Operation}
 use Rattle.alu.specs.declared.operation.Operation.TheVariants as operation
 use Rattle.lines.specs.Numbers.{number_of}
@@ -25,7 +26,7 @@ use Rattle.isa.specs.declared.operands.Rpa3.{Rpa3}
 use Rattle.isa.specs.declared.operands.Rpa3.TheVariants as rpa3
 use Rattle.isa.specs.declared.operands.Flag.{Flag}
 use Rattle.isa.specs.declared.operands.Flag.TheVariants as flag
-use Rattle.isa.specs.Codes.{register_at, r1_at, r2_at, rp_at, rp1_at, rp2_at, rp3_at, rpa2_at, rpa3_at, flag_at, operation_at, line_coded, register_code, r1_code, r2_code, rp_code, rp1_code, rp2_code, rp3_code, rpa2_code, rpa3_code, flag_code, operation_code}
+use Rattle.isa.specs.Codes.{register_at, r1_at, r2_at, rp_at, rp1_at, rp2_at, rp3_at, rpa2_at, rpa3_at, flag_at, operation_at, line_coded, register_code, r1_code, r2_code, rp_code, rp1_code, rp2_code, rp3_code, rpa2_code, rpa3_code, flag_code}
 
 pub register_again : (x : ByteRegister) → register_at (register_code x) ≡ x
 unfolding register_at

@@ -2,7 +2,7 @@
 use Rattle.std.specs.Prelude.{ℕ, ◌%◌, cond, Some, None, Option, ◌==◌}
 use Rattle.alu.specs.Naming.{named}
 use Rattle.alu.specs.declared.operation.Operation.{Operation}
-use Rattle.alu.specs.declared.operation.Operation.TheVariants.{And, Xor, Or, AddSkipNoCarry, Greater, SubSkipNoBorrow, Less, Add, On, AddWithCarry, Off, Sub, NotEqual, SubWithCarry, Equal}
+use Rattle.alu.specs.declared.operation.Operation.TheVariants.{Equal}
 use Rattle.lines.specs.Numbers.{line_at}
 use Rattle.lines.specs.declared.line.Line.{Line}
 use Rattle.lines.specs.declared.line.Line.TheVariants.{Fst}
@@ -203,20 +203,3 @@ abbrev pub flag_code : Flag → ℕ
 flag_code flag.Carry = 2
 flag_code flag.Half = 3
 flag_code flag.Zero = 4
-
-abbrev pub operation_code : Operation → ℕ
-operation_code And = 1
-operation_code Xor = 2
-operation_code Or = 3
-operation_code AddSkipNoCarry = 4
-operation_code Greater = 5
-operation_code SubSkipNoBorrow = 6
-operation_code Less = 7
-operation_code Add = 8
-operation_code On = 9
-operation_code AddWithCarry = 10
-operation_code Off = 11
-operation_code Sub = 12
-operation_code NotEqual = 13
-operation_code SubWithCarry = 14
-operation_code Equal = 15

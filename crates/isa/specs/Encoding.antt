@@ -1,8 +1,9 @@
 -- Encoding: the opcode of each instruction, as the columns of codes list it.
 use Rattle.std.specs.Prelude.{ℕ, ◌+◌, ◌*◌, ◌/◌, ◌%◌, Bool, cond, not, ◌||◌, Some, None, Option, ◌==◌, nat_lt}
+use Rattle.alu.specs.Naming.{operation_code}
 use Rattle.lines.specs.Numbers.{number_of}
 use Rattle.isa.specs.Special.{readable, writable, both_ways}
-use Rattle.isa.specs.Codes.{register_code, r1_code, r2_code, rp_code, rp1_code, rp2_code, rp3_code, rpa2_code, rpa3_code, flag_code, operation_code}
+use Rattle.isa.specs.Codes.{register_code, r1_code, r2_code, rp_code, rp1_code, rp2_code, rp3_code, rpa2_code, rpa3_code, flag_code}
 use Rattle.isa.specs.declared.encoding.Opcode.{Opcode}
 use Rattle.isa.specs.declared.encoding.Opcode.TheVariants.{One, Two}
 use Rattle.isa.specs.declared.instructions.Instruction.{Instruction}

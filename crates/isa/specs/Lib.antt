@@ -1,4 +1,5 @@
 pub mod Special
+pub mod Operands
 pub mod Codes
 pub mod Again
 pub mod Decoding

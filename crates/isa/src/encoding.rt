@@ -1,6 +1,6 @@
 // Encoding: the opcode of an instruction.
 ghost use Rattle.std.specs.Prelude.{◌≡◌, Option};
-ghost use Rattle.isa.specs.Codes.{operation_code};
+ghost use Rattle.alu.specs.Naming.{operation_code};
 ghost use Rattle.isa.specs.declared.encoding.Opcode.{Opcode};
 ghost use Rattle.isa.specs.Encoding.{encoded, transfer_opcode, arithmetic_opcode, jump_opcode, special_opcode, control_opcode, one as one_byte, two as two_bytes, takes_a};
 

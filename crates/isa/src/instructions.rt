@@ -5,7 +5,7 @@ use lines::Line;
 use registers::bank::ByteRegister;
 
 /// Each family is executed apart.
-#[derive(Clone, Copy)]
+#[derive(Clone, Copy, PartialEq, Eq, Debug)]
 pub enum Instruction {
     Transfer(Transfer),
     Arithmetic(Arithmetic),
@@ -15,7 +15,7 @@ pub enum Instruction {
 }
 
 /// Transfers between registers and memory.
-#[derive(Clone, Copy)]
+#[derive(Clone, Copy, PartialEq, Eq, Debug)]
 pub enum Transfer {
     /// MOV r1,A.
     MovToR1(R1),
@@ -70,7 +70,7 @@ pub enum Transfer {
 }
 
 /// The fifteen operations and other arithmetic, shifts and rotates, on registers and memory.
-#[derive(Clone, Copy)]
+#[derive(Clone, Copy, PartialEq, Eq, Debug)]
 pub enum Arithmetic {
     /// A,r, as ADD A,r.
     OperateA(Operation, ByteRegister),
@@ -143,7 +143,7 @@ pub enum Arithmetic {
 }
 
 /// Jumps, calls and returns.
-#[derive(Clone, Copy)]
+#[derive(Clone, Copy, PartialEq, Eq, Debug)]
 pub enum Jump {
     /// JMP word.
     Jmp,
@@ -176,7 +176,7 @@ pub enum Jump {
 }
 
 /// Transfers and operations on special registers, by their codes.
-#[derive(Clone, Copy)]
+#[derive(Clone, Copy, PartialEq, Eq, Debug)]
 pub enum Special {
     /// MOV sr,A: the code of a special register, 0 to 63.
     MovToSr(u8),
@@ -189,7 +189,7 @@ pub enum Special {
 }
 
 /// Tests and the modes of the core.
-#[derive(Clone, Copy)]
+#[derive(Clone, Copy, PartialEq, Eq, Debug)]
 pub enum Control {
     /// BIT bit,wa: the bit, 0 to 7.
     Bit(u8),

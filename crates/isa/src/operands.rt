@@ -1,4 +1,8 @@
 // The operands that an opcode names, each with its code there: registers, pairs, addressings and flags.
+ghost use Rattle.std.specs.Prelude.{◌≡◌};
+ghost use Rattle.isa.specs.Operands.{r2_register};
+
+use registers::bank::ByteRegister;
 
 /// r1: a byte of EA or one of B to L.
 #[derive(Clone, Copy, PartialEq, Eq, Debug)]
@@ -111,4 +115,16 @@ pub enum Flag {
     Carry = 2,
     Half = 3,
     Zero = 4,
+}
+
+impl From<R2> for ByteRegister {
+    ghost from_gives = { λ r2 register. register ≡ r2_register r2 };
+
+    fn from(r2: R2) -> ByteRegister {
+        match r2 {
+            R2::A => ByteRegister::A,
+            R2::B => ByteRegister::B,
+            R2::C => ByteRegister::C,
+        }
+    }
 }

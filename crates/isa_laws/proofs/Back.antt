@@ -2,8 +2,9 @@
 use Rattle.std.proofs.Common.{◌≡◌, ℕ, ◌+◌, ◌*◌, ◌/◌, ◌%◌, ◌≤◌, Bool, true, false, cond, ltb, Some, None, Ok, Option, refl, inl, inr, arith}
 use Rattle.std.proofs.lemmas.Bool.{cases_lt, true≢false}
 use Rattle.std.proofs.lemmas.Bool.Decides.{nat_tests}
+use Rattle.alu.specs.Naming.{operation_code}
 use Rattle.isa.specs.Special.{readable, writable, both_ways}
-use Rattle.isa.specs.Codes.{register_at, r1_at, r2_at, rp_at, rp1_at, rp2_at, rp3_at, rpa2_at, rpa3_at, flag_at, operation_at, line_coded, operation_code}
+use Rattle.isa.specs.Codes.{register_at, r1_at, r2_at, rp_at, rp1_at, rp2_at, rp3_at, rpa2_at, rpa3_at, flag_at, operation_at, line_coded}
 use Rattle.isa.specs.Decoding.{Decoded, decoded, behind_48, behind_4c, behind_4d, behind_60, behind_64, behind_70, behind_74}
 use Rattle.isa.specs.Encoding.{encoded, one, two}
 use Rattle.isa.specs.declared.encoding.Opcode.{Opcode}

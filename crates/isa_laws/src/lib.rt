@@ -9,18 +9,17 @@ ghost use Rattle.isa_laws.specs.Laws.{prefix, Alone, Deciding, counted, begins, 
 use isa::{Instruction, Opcode};
 
 /// Whether a first byte is a prefix; any other decides alone.
+#[tactic(auto, using(crate::proofs::Forth::alone, crate::proofs::Forth::deciding))]
 pub fn is_prefix(first: u8) -> bool
     ensures value { result ≡ prefix first }
     ensures alone { Alone }
     ensures decides { Deciding }
 {
-    match first {
-        0x48 | 0x4C | 0x4D | 0x60 | 0x64 | 0x70 | 0x74 => true,
-        _ => false,
-    }
+    matches!(first, 0x48 | 0x4C | 0x4D | 0x60 | 0x64 | 0x70 | 0x74)
 }
 
 /// How many codes of one or two opcode bytes are defined.
+#[tactic(auto, using(crate::proofs::Forth::count))]
 pub fn defined_codes() -> u16
     ensures value { result ≡ 1082 }
     ensures all { result ≡ counted }

@@ -22,7 +22,8 @@ use Rattle.isa.specs.declared.instructions.Control.{Control}
 use Rattle.isa.specs.declared.instructions.Control.TheVariants.{Bit, Sk, Skn, Skit, Sknit, Nop, Ei, Di, Hlt}
 use Rattle.machine.specs.declared.words.WordRegister.TheVariants.{Bc, Ea}
 use Rattle.machine.specs.Registers.{with_carry}
-use Rattle.machine.specs.Operands.{r2_register, rp_word, rp1_word, rp2_word, rp3_word}
+use Rattle.isa.specs.Operands.{r2_register}
+use Rattle.machine.specs.Operands.{rp_word, rp1_word, rp2_word, rp3_word}
 use Rattle.machine.specs.Model.{Model, Reach, Ports, begun, within_registers, from_memory, to_memory, on_core, on_registers, on_reach, on_ports}
 use Rattle.machine.specs.Transfer.{to_r1, from_r1, direct_loaded, direct_stored, immediate, word_immediate, working_immediate, indirect_immediate, working_loaded, working_stored, indirect_loaded, indirect_stored, b_to_l_exchanged, v_a_ea_exchanged, h_l_exchanged, block_step, from_ea, to_ea, word_loaded, word_saved, ea_loaded, ea_stored, word_pushed, word_popped, from_table, special_read, special_written, special_immediate}
 use Rattle.machine.specs.Arithmetic.{operated_a, operated_r, operated_x, operated_byte, operated_w, operated_w_byte, operated_sr2, operated_ea, operated_ea_byte, multiplied, divided, register_counted, working_counted, word_incremented, word_decremented, decimal_adjusted, a_negated, register_shifted, register_shifted_skipping, ea_shifted, digits_left, digits_right}

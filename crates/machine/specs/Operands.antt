@@ -1,14 +1,12 @@
 -- What the operands of an instruction name: registers, words, data bytes behind the opcode, and places in memory.
 -- PC is the address behind the instruction already.
 use Rattle.std.specs.Prelude.{ℕ}
-use Rattle.registers.specs.declared.bank.ByteRegister.{ByteRegister}
 use Rattle.registers.specs.declared.bank.ByteRegister.TheVariants as byte
 use Rattle.registers.specs.declared.file.Registers.{Registers}
 use Rattle.board.specs.Cells.{Cells}
+pub use Rattle.isa.specs.Operands.{r2_register}
 use Rattle.isa.specs.declared.operands.R1.{R1}
 use Rattle.isa.specs.declared.operands.R1.TheVariants as r1
-use Rattle.isa.specs.declared.operands.R2.{R2}
-use Rattle.isa.specs.declared.operands.R2.TheVariants as r2
 use Rattle.isa.specs.declared.operands.Rp.{Rp}
 use Rattle.isa.specs.declared.operands.Rp.TheVariants as rp
 use Rattle.isa.specs.declared.operands.Rp1.{Rp1}
@@ -46,12 +44,6 @@ with_r1 r1.D x s = with_byte byte.D x s
 with_r1 r1.E x s = with_byte byte.E x s
 with_r1 r1.H x s = with_byte byte.H x s
 with_r1 r1.L x s = with_byte byte.L x s
-
--- r2 as a byte register
-abbrev pub r2_register : R2 → ByteRegister
-r2_register r2.A = byte.A
-r2_register r2.B = byte.B
-r2_register r2.C = byte.C
 
 -- a word register: its value, and the registers with it replaced
 abbrev pub word_in : WordRegister → Registers → ℕ

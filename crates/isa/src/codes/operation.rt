@@ -1,7 +1,8 @@
 // Operation k, 1 to 15; 0, which no caller asks for, is read as 15.
 ghost use Rattle.std.proofs.Common.{rules};
 ghost use Rattle.isa.specs.Again.{operation_again};
-ghost use Rattle.isa.specs.Codes.{operation_at, operation_code};
+ghost use Rattle.alu.specs.Naming.{operation_code};
+ghost use Rattle.isa.specs.Codes.{operation_at};
 
 use crate::codes::Operand;
 use alu::Operation;
@@ -19,10 +20,10 @@ impl Operand for Operation {
     ghost low = { Prim.search rules };
 
     fn at(bits: u8) -> Operation {
-        Operation::from_code(bits).unwrap_or(Operation::Equal)
+        Operation::try_from(bits).unwrap_or(Operation::Equal)
     }
 
     fn code(self) -> u8 {
-        self as u8 + 1
+        self.code()
     }
 }
