@@ -8,7 +8,7 @@ use Rattle.record.specs.declared.kind.Kind.TheVariants.{Cell as CELL, Page as PA
 use Rattle.record.specs.declared.fault.RecordFault.{RecordFault}
 use Rattle.record.specs.declared.fault.RecordFault.TheVariants.{CutShort, NoRoom}
 use Rattle.record.specs.Law.{Fits, reread, Rewrites}
-use Rattle.record.specs.Wire.{Said, cell, page, fix, set, grant, signal, reset, end, wire, whole, kind_of, body_length, meant, reading, reading_as, write_answer, write_over}
+use Rattle.record.specs.Wire.{Said, cell, page, fix, set, grant, signal, reset, end, wire, whole, code, kind_of, body_length, meant, reading, reading_as, write_answer, write_over}
 
 -- every element is a byte
 abbrev pub Bytes : List ℕ → Type 0
@@ -45,17 +45,6 @@ four : (x y z w n : ℕ) → x < 256 → y < 256 → z < 256 → w < 256 → n �
     → (n % 256 ≡ x) × (n / 256 % 256 ≡ y) × (n / 65536 % 256 ≡ z) × (n / 16777216 ≡ w)
 four x y z w n h g i j e = (omega arith, omega arith, omega arith, omega arith)
 
--- the byte of a kind
-abbrev pub code : Kind → ℕ
-code CELL = 1
-code PAGE = 2
-code FIX = 3
-code SET = 4
-code GRANT = 5
-code SIGNAL = 6
-code RESET = 7
-code END = 8
-
 -- the record that a whole body means has that kind and that body as its bytes
 body_again : (kind : Kind) (bs : List ℕ) → body_length kind ≤ length bs → Bytes bs
     → (wire (meant kind bs) ≡ code kind ∷ take (body_length kind) bs) × (whole (meant kind bs) ≡ true)
@@ -77,20 +66,12 @@ body_again GRANT (x ∷ []) l b = absurd (omega arith)
 body_again GRANT (x ∷ y ∷ []) l b = absurd (omega arith)
 body_again GRANT (x ∷ y ∷ z ∷ []) l b = absurd (omega arith)
 body_again GRANT (x ∷ y ∷ z ∷ w ∷ t) l b = let p = four x y z w _ (b 0) (b 1) (b 2) (b 3) refl in (cc, refl)
-body_again SIGNAL [] l b = absurd (omega arith)
-body_again SIGNAL (x ∷ t) l b = (refl, refl)
+body_again SIGNAL bs l b = grind (arith, nat_tests)
 body_again RESET bs l b = (refl, refl)
 body_again END bs l b = (refl, refl)
 
 kind_code : (byte : ℕ) (kind : Kind) → kind_of byte ≡ Some kind → code kind ≡ byte
-kind_code byte CELL e = grind (arith, nat_tests)
-kind_code byte PAGE e = grind (arith, nat_tests)
-kind_code byte FIX e = grind (arith, nat_tests)
-kind_code byte SET e = grind (arith, nat_tests)
-kind_code byte GRANT e = grind (arith, nat_tests)
-kind_code byte SIGNAL e = grind (arith, nat_tests)
-kind_code byte RESET e = grind (arith, nat_tests)
-kind_code byte END e = grind (arith, nat_tests)
+kind_code byte kind e = grind (arith, nat_tests)
 
 -- what a record that was read says: it has the bytes it was read from
 pub record Read (bytes : List ℕ) (r : Said) (n : ℕ) : Type 0 where
@@ -102,11 +83,10 @@ pub record Read (bytes : List ℕ) (r : Said) (n : ℕ) : Type 0 where
 
 in_body : (kind : Kind) (bs : List ℕ) (cut : Bool) (r : Said) (n : ℕ) → Bytes bs → ltb (length bs) (body_length kind) ≡ cut
     → cond {A = Result (Said × ℕ) RecordFault} cut (Err CutShort) (Ok (meant kind bs, 1 + body_length kind)) ≡ Ok (r, n) → Read (code kind ∷ bs) r n
-in_body kind bs true r n b l e = let z : ◌≡◌ {A = ℕ} 0 1 = cc in absurd (omega arith)
+in_body kind bs true r n b l e = absurd (grind arith)
 in_body kind bs false r n b l e =
-    let q : ◌≡◌ {A = Said × ℕ} (meant kind bs, 1 + body_length kind) (r, n) = cc in
-    let m : meant kind bs ≡ r = ap (λ x. x.0) q in
-    let j : 1 + body_length kind ≡ n = ap (λ x. x.1) q in
+    let m : meant kind bs ≡ r = grind arith in
+    let j : 1 + body_length kind ≡ n = grind arith in
     let h = ltb-false (length bs) (body_length kind) l in
     let w = body_again kind bs h b in
     let t : take (1 + body_length kind) (code kind ∷ bs) ≡ code kind ∷ take (body_length kind) bs = rw one-add in
@@ -120,35 +100,19 @@ in_body kind bs false r n b l e =
     }
 
 of_kind : (byte : ℕ) (bs : List ℕ) (o : Option Kind) (r : Said) (n : ℕ) → Bytes bs → kind_of byte ≡ o → reading_as o bs ≡ Ok (r, n) → Read (byte ∷ bs) r n
-of_kind byte bs None r n b k e = let z : ◌≡◌ {A = ℕ} 0 1 = cc in absurd (omega arith)
+of_kind byte bs None r n b k e = absurd (grind arith)
 of_kind byte bs (Some kind) r n b k e =
     let P : ℕ → Type 0 = λ x. Read (x ∷ bs) r n in
     subst P (kind_code byte kind k) (in_body kind bs (ltb (length bs) (body_length kind)) r n b refl e)
 
 pub reads : (bytes : List ℕ) (r : Said) (n : ℕ) → Bytes bytes → reading bytes ≡ Ok (r, n) → Read bytes r n
-reads [] r n b e = let z : ◌≡◌ {A = ℕ} 0 1 = cc in absurd (omega arith)
+reads [] r n b e = absurd (grind arith)
 reads (byte ∷ bs) r n b e = of_kind byte bs (kind_of byte) r n (λ i. b (suc i)) refl e
 
 -- a record with the bytes it was read from is written as these
 pub rewrites : (bytes : List ℕ) (r : Said) (n : ℕ) → Read bytes r n → Rewrites bytes r n
-rewrites bytes r n p buffer =
-    let w : write_answer r buffer ≡ cond (ltb (length buffer) n) (Err NoRoom) (Ok n) = chosen_answer (whole r) p.is_whole in
-    (w, chosen_over (whole r) p.is_whole)
-  where
-    chosen_answer : (w : Bool) → w ≡ true
-        → cond {A = Result ℕ RecordFault} w (cond (ltb (length buffer) (length (wire r))) (Err NoRoom) (Ok (length (wire r)))) (Err NoRoom) ≡ cond (ltb (length buffer) n) (Err NoRoom) (Ok n)
-    chosen_answer true e = ap (λ k. cond {A = Result ℕ RecordFault} (ltb (length buffer) k) (Err NoRoom) (Ok k)) (sym p.size)
-    chosen_answer false e = let z : ◌≡◌ {A = ℕ} 0 1 = cc in absurd (omega arith)
-
-    chosen_over : (w : Bool) → w ≡ true
-        → cond w (cond (ltb (length buffer) (length (wire r))) buffer (wire r ++ drop (length (wire r)) buffer)) buffer ≡ cond (ltb (length buffer) n) buffer (take n bytes ++ drop n buffer)
-    chosen_over true e =
-        ap (λ ws. cond (ltb (length buffer) (length (wire r))) buffer (ws ++ drop (length (wire r)) buffer)) p.same
-        ∙ ap (λ k. cond (ltb (length buffer) k) buffer (take n bytes ++ drop k buffer)) (sym p.size)
-    chosen_over false e = let z : ◌≡◌ {A = ℕ} 0 1 = cc in absurd (omega arith)
+rewrites bytes r n p buffer = (rw (p.is_whole, ← p.size), rw (p.is_whole, ← p.size, p.same))
 
 -- the same of a part of some bytes
 pub reads_at : (bytes part : List ℕ) (offset : ℕ) (r : Said) (n : ℕ) → Bytes bytes → part ≡ drop offset bytes → Ok (r, n) ≡ reading part → Read (drop offset bytes) r n
-reads_at bytes part offset r n b e h =
-    let P : ℕ → Type 0 = λ x. x < 256 in
-    reads (drop offset bytes) r n (λ i. subst P (sym (get_or-drop offset bytes i 0)) (b (offset + i))) (sym (h ∙ ap reading e))
+reads_at bytes part offset r n b e h = reads (drop offset bytes) r n (λ i. rw get_or-drop (b (offset + i))) (sym (h ∙ ap reading e))

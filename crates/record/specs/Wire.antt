@@ -1,5 +1,5 @@
 -- The records of a session as bytes: one byte of kind, then a body whose length the kind fixes. Numbers have the low byte first.
-use Rattle.std.specs.Prelude.{ℕ, ◌+◌, ◌*◌, ◌/◌, ◌%◌, Bool, true, cond, List, [], ◌∷◌, ◌++◌, length, take, drop, Some, None, Ok, Err, Option, Result, ◌==◌, nat_lt, slice_index}
+use Rattle.std.specs.Prelude.{ℕ, ◌+◌, ◌*◌, ◌/◌, ◌%◌, Bool, true, cond, List, [], ◌∷◌, ◌++◌, length, take, drop, Some, None, Ok, Err, Option, Result, ◌==◌, nat_lt, find, slice_index, codes}
 use Rattle.record.specs.declared.kind.Kind.{Kind}
 use Rattle.record.specs.declared.kind.Kind.TheVariants.{Cell as CELL, Page as PAGE, Fix as FIX, Set as SET, Grant as GRANT, Signal as SIGNAL, Reset as RESET, End as END}
 use Rattle.record.specs.declared.types.Record.{Record}
@@ -14,17 +14,26 @@ fault_number UnknownKind = 8
 fault_number CutShort = 9
 fault_number NoRoom = 13
 
+-- their texts
+abbrev pub fault_text : RecordFault → List ℕ
+fault_text UnknownKind = codes "no record has this kind"
+fault_text CutShort = codes "the record is cut short"
+fault_text NoRoom = codes "no room for the record"
+
+-- the byte of a kind
+abbrev pub code : Kind → ℕ
+code CELL = 1
+code PAGE = 2
+code FIX = 3
+code SET = 4
+code GRANT = 5
+code SIGNAL = 6
+code RESET = 7
+code END = 8
+
 -- the kind of a byte
 abbrev pub kind_of : ℕ → Option Kind
-kind_of byte =
-    cond (byte == 1) (Some CELL)
-    (cond (byte == 2) (Some PAGE)
-    (cond (byte == 3) (Some FIX)
-    (cond (byte == 4) (Some SET)
-    (cond (byte == 5) (Some GRANT)
-    (cond (byte == 6) (Some SIGNAL)
-    (cond (byte == 7) (Some RESET)
-    (cond (byte == 8) (Some END) None)))))))
+kind_of byte = find (λ kind. code kind == byte) (CELL ∷ PAGE ∷ FIX ∷ SET ∷ GRANT ∷ SIGNAL ∷ RESET ∷ END ∷ [])
 
 -- how long its body is
 abbrev pub body_length : Kind → ℕ
@@ -74,6 +83,10 @@ meant SIGNAL bs = signal (slice_index bs 0)
 meant RESET bs = reset
 meant END bs = end
 
+-- the record of a kind that a body says, if it is whole
+abbrev pub body_of : Kind → List ℕ → Result Said RecordFault
+body_of kind bs = cond (nat_lt (length bs) (body_length kind)) (Err CutShort) (Ok (meant kind bs))
+
 -- the record whose kind is known, with its whole length
 abbrev pub reading_as : Option Kind → List ℕ → Result (Said × ℕ) RecordFault
 reading_as None bs = Err UnknownKind
@@ -107,6 +120,10 @@ abbrev pub finding : List ℕ → ℕ → Result Finding RecordFault
 finding session offset = found_at offset (reading (drop offset session))
 
 -- an answer of the code by its values
+abbrev pub told : Result Record RecordFault → Result Said RecordFault
+told (Ok r) = Ok (said r)
+told (Err fault) = Err fault
+
 abbrev pub answered : Result (Record × ℕ) RecordFault → Result (Said × ℕ) RecordFault
 answered (Ok r) = Ok (said r.0, r.1)
 answered (Err fault) = Err fault

@@ -1,15 +1,19 @@
 // Why a record is not read or written.
-ghost use Rattle.std.specs.Prelude.{◌≡◌};
-ghost use Rattle.record.specs.Wire.{fault_number};
+ghost use Rattle.std.specs.Prelude.{◌≡◌, Some, codes};
+ghost use Rattle.record.specs.Wire.{fault_number, fault_text};
 
+use std::error::Error;
+use std::fmt;
+
+/// A refusal, as its number.
 #[derive(Clone, Copy, PartialEq, Eq, Debug)]
 pub enum RecordFault {
     /// The kind is none of 1 to 8.
-    UnknownKind,
+    UnknownKind = 8,
     /// There is no kind byte, or the body is cut short.
-    CutShort,
+    CutShort = 9,
     /// The buffer is too short for the record, or a page has not 256 bytes.
-    NoRoom,
+    NoRoom = 13,
 }
 
 impl RecordFault {
@@ -17,10 +21,20 @@ impl RecordFault {
     pub fn number(self) -> u8
         ensures { result ≡ fault_number self }
     {
-        match self {
-            RecordFault::UnknownKind => 8,
-            RecordFault::CutShort => 9,
-            RecordFault::NoRoom => 13,
-        }
+        self as u8
     }
 }
+
+impl fmt::Display for RecordFault {
+    ghost output = { λ fault. Some (fault_text fault) };
+
+    fn fmt<W: fmt::Write>(&self, f: &mut fmt::Formatter<W>) -> fmt::Result {
+        f.write_str(match self {
+            RecordFault::UnknownKind => "no record has this kind",
+            RecordFault::CutShort => "the record is cut short",
+            RecordFault::NoRoom => "no room for the record",
+        })
+    }
+}
+
+impl Error for RecordFault {}

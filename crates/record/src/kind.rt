@@ -1,36 +1,57 @@
 // The kinds of records.
-ghost use Rattle.std.specs.Prelude.{◌≡◌};
-ghost use Rattle.record.specs.Wire.{kind_of, body_length};
+ghost use Rattle.std.specs.Prelude.{◌≡◌, ok_or};
+ghost use Rattle.record.specs.Wire.{code, kind_of, body_length};
+ghost use Rattle.record.specs.declared.fault.RecordFault.TheVariants.{UnknownKind};
 
-#[derive(Clone, Copy)]
+use crate::fault::RecordFault;
+
+/// A kind, as the byte that a record of it begins with.
+#[derive(Clone, Copy, PartialEq, Eq, Debug)]
 pub enum Kind {
-    Cell,
-    Page,
-    Fix,
-    Set,
-    Grant,
-    Signal,
-    Reset,
-    End,
+    Cell = 1,
+    Page = 2,
+    Fix = 3,
+    Set = 4,
+    Grant = 5,
+    Signal = 6,
+    Reset = 7,
+    End = 8,
+}
+
+impl From<Kind> for u8 {
+    ghost from_gives = { λ kind byte. byte ≡ code kind };
+
+    fn from(kind: Kind) -> u8 {
+        kind as u8
+    }
+}
+
+impl TryFrom<u8> for Kind {
+    type Error = RecordFault;
+
+    ghost try_from_gives = { λ byte kind. kind ≡ ok_or (kind_of byte) UnknownKind };
+
+    fn try_from(byte: u8) -> Result<Kind, RecordFault> {
+        Kind::ALL
+            .iter()
+            .find(|kind| u8::from(**kind) == byte)
+            .copied()
+            .ok_or(RecordFault::UnknownKind)
+    }
 }
 
 impl Kind {
-    /// The kind of a record's first byte.
-    pub fn from_byte(byte: u8) -> Option<Kind>
-        ensures { result ≡ kind_of byte }
-    {
-        match byte {
-            1 => Some(Kind::Cell),
-            2 => Some(Kind::Page),
-            3 => Some(Kind::Fix),
-            4 => Some(Kind::Set),
-            5 => Some(Kind::Grant),
-            6 => Some(Kind::Signal),
-            7 => Some(Kind::Reset),
-            8 => Some(Kind::End),
-            _ => None,
-        }
-    }
+    /// Every kind, in the order of the bytes.
+    pub const ALL: [Kind; 8] = [
+        Kind::Cell,
+        Kind::Page,
+        Kind::Fix,
+        Kind::Set,
+        Kind::Grant,
+        Kind::Signal,
+        Kind::Reset,
+        Kind::End,
+    ];
 
     /// How many bytes follow the kind.
     pub fn body_length(self) -> usize

@@ -1,7 +1,7 @@
 // Reads records from a session.
-ghost use Rattle.std.specs.Prelude.{◌≡◌, ◌+◌, ◌^◌, ◌<◌, ◌≤◌, length, drop, IfOk, Some};
+ghost use Rattle.std.specs.Prelude.{◌≡◌, ◌+◌, ◌^◌, ◌<◌, ◌≤◌, length, drop, IfOk};
 ghost use Rattle.record.specs.Law.{Rewrites};
-ghost use Rattle.record.specs.Wire.{reading, reading_as, answered, finding, found, said, page_at, wire};
+ghost use Rattle.record.specs.Wire.{reading, body_of, told, answered, finding, found, said, page_at, wire};
 ghost use Rattle.record.specs.declared.kind.Kind.TheVariants.{Cell as CELL, Page as PAGE, Fix as FIX, Set as SET, Grant as GRANT, Signal as SIGNAL};
 
 use crate::fault::RecordFault;
@@ -15,10 +15,7 @@ impl<'a> Record<'a> {
         ensures inside { IfOk result (λ f. (0 < f.length) × (offset + f.length ≤ length session.now)) }
         ensures rewrites { IfOk result (λ f. Rewrites (drop offset session.now) (said f.value) f.length) }
     {
-        if offset > session.len() {
-            return Err(RecordFault::CutShort);
-        }
-        let (_, rest) = session.split_at(offset);
+        let rest = session.get(offset..).ok_or(RecordFault::CutShort)?;
         let (value, length) = read_first(rest)?;
         let page = page_at(&value, offset);
         Ok(Found {
@@ -48,14 +45,13 @@ fn read_first(rest: &[u8]) -> Result<(Record<'_>, usize), RecordFault>
     let [kind, body @ ..] = rest else {
         return Err(RecordFault::CutShort);
     };
-    let Some(kind) = Kind::from_byte(*kind) else {
-        return Err(RecordFault::UnknownKind);
-    };
-    read_body(kind, body)
+    let kind = Kind::try_from(*kind)?;
+    let record = read_body(kind, body)?;
+    Ok((record, 1 + kind.body_length()))
 }
 
-fn read_body(kind: Kind, body: &[u8]) -> Result<(Record<'_>, usize), RecordFault>
-    ensures { answered result ≡ reading_as (Some kind) body.now }
+fn read_body(kind: Kind, body: &[u8]) -> Result<Record<'_>, RecordFault>
+    ensures { told result ≡ body_of kind body.now }
 {
     match kind {
         Kind::Cell => read_cell(body),
@@ -64,94 +60,66 @@ fn read_body(kind: Kind, body: &[u8]) -> Result<(Record<'_>, usize), RecordFault
         Kind::Set => read_set(body),
         Kind::Grant => read_grant(body),
         Kind::Signal => read_signal(body),
-        Kind::Reset => Ok((Record::Reset, 1)),
-        Kind::End => Ok((Record::End, 1)),
+        Kind::Reset => Ok(Record::Reset),
+        Kind::End => Ok(Record::End),
     }
 }
 
-fn read_cell(body: &[u8]) -> Result<(Record<'_>, usize), RecordFault>
-    ensures { answered result ≡ reading_as (Some CELL) body.now }
+fn read_cell(body: &[u8]) -> Result<Record<'_>, RecordFault>
+    ensures { told result ≡ body_of CELL body.now }
 {
-    let [low, high, byte, ..] = body else {
+    let [low, high, byte, ..] = *body else {
         return Err(RecordFault::CutShort);
     };
-    let address = u16::from_le_bytes([*low, *high]);
-    Ok((
-        Record::Cell {
-            address,
-            byte: *byte,
-        },
-        4,
-    ))
+    let address = u16::from_le_bytes([low, high]);
+    Ok(Record::Cell { address, byte })
 }
 
-fn read_page(body: &[u8]) -> Result<(Record<'_>, usize), RecordFault>
-    ensures { answered result ≡ reading_as (Some PAGE) body.now }
+fn read_page(body: &[u8]) -> Result<Record<'_>, RecordFault>
+    ensures { told result ≡ body_of PAGE body.now }
 {
     let [page, bytes @ ..] = body else {
         return Err(RecordFault::CutShort);
     };
-    if bytes.len() < 256 {
-        return Err(RecordFault::CutShort);
-    }
-    Ok((
-        Record::Page {
-            page: *page,
-            bytes: &bytes[0..256],
-        },
-        258,
-    ))
+    let bytes = bytes.get(..256).ok_or(RecordFault::CutShort)?;
+    Ok(Record::Page { page: *page, bytes })
 }
 
-fn read_fix(body: &[u8]) -> Result<(Record<'_>, usize), RecordFault>
-    ensures { answered result ≡ reading_as (Some FIX) body.now }
+fn read_fix(body: &[u8]) -> Result<Record<'_>, RecordFault>
+    ensures { told result ≡ body_of FIX body.now }
 {
-    let [low, high, ..] = body else {
+    let [low, high, ..] = *body else {
         return Err(RecordFault::CutShort);
     };
-    Ok((
-        Record::Fix {
-            below: u16::from_le_bytes([*low, *high]),
-        },
-        3,
-    ))
+    let below = u16::from_le_bytes([low, high]);
+    Ok(Record::Fix { below })
 }
 
-fn read_set(body: &[u8]) -> Result<(Record<'_>, usize), RecordFault>
-    ensures { answered result ≡ reading_as (Some SET) body.now }
+fn read_set(body: &[u8]) -> Result<Record<'_>, RecordFault>
+    ensures { told result ≡ body_of SET body.now }
 {
-    let [register, low, high, ..] = body else {
+    let [register, low, high, ..] = *body else {
         return Err(RecordFault::CutShort);
     };
-    let value = u16::from_le_bytes([*low, *high]);
-    Ok((
-        Record::Set {
-            register: *register,
-            value,
-        },
-        4,
-    ))
+    let value = u16::from_le_bytes([low, high]);
+    Ok(Record::Set { register, value })
 }
 
-fn read_grant(body: &[u8]) -> Result<(Record<'_>, usize), RecordFault>
-    ensures { answered result ≡ reading_as (Some GRANT) body.now }
+fn read_grant(body: &[u8]) -> Result<Record<'_>, RecordFault>
+    ensures { told result ≡ body_of GRANT body.now }
 {
-    let [a, b, c, d, ..] = body else {
+    let [a, b, c, d, ..] = *body else {
         return Err(RecordFault::CutShort);
     };
-    Ok((
-        Record::Grant {
-            states: u32::from_le_bytes([*a, *b, *c, *d]),
-        },
-        5,
-    ))
+    let states = u32::from_le_bytes([a, b, c, d]);
+    Ok(Record::Grant { states })
 }
 
-fn read_signal(body: &[u8]) -> Result<(Record<'_>, usize), RecordFault>
-    ensures { answered result ≡ reading_as (Some SIGNAL) body.now }
+fn read_signal(body: &[u8]) -> Result<Record<'_>, RecordFault>
+    ensures { told result ≡ body_of SIGNAL body.now }
 {
-    let [line, ..] = body else {
+    let [line, ..] = *body else {
         return Err(RecordFault::CutShort);
     };
-    Ok((Record::Signal { line: *line }, 2))
+    Ok(Record::Signal { line })
 }

@@ -1,7 +1,7 @@
 // A record by its values, and a record found in a session.
 
 /// One record. A page's 256 bytes are that part of the session.
-#[derive(Clone, Copy)]
+#[derive(Clone, Copy, PartialEq, Eq, Debug)]
 pub enum Record<'a> {
     Cell { address: u16, byte: u8 },
     Page { page: u8, bytes: &'a [u8] },
@@ -14,7 +14,7 @@ pub enum Record<'a> {
 }
 
 /// A record with its place in the session, which is no part of the record.
-#[derive(Clone, Copy)]
+#[derive(Clone, Copy, PartialEq, Eq, Debug)]
 pub struct Found<'a> {
     pub value: Record<'a>,
     /// The offset of the body.

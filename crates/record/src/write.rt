@@ -4,6 +4,7 @@ ghost use Rattle.record.specs.Law.{Fits, reread};
 ghost use Rattle.record.specs.Wire.{said, page, reading, put_answer, put_over, write_answer, write_over};
 
 use crate::fault::RecordFault;
+use crate::kind::Kind;
 use crate::types::Record;
 
 impl Record<'_> {
@@ -25,24 +26,24 @@ fn write_at_start(record: &Record<'_>, buffer: &mut [u8]) -> Result<usize, Recor
     match record {
         Record::Cell { address, byte } => {
             let [low, high] = address.to_le_bytes();
-            put(buffer, &[1, low, high, *byte])
+            put(buffer, &[Kind::Cell.into(), low, high, *byte])
         }
         Record::Page { page, bytes } => put_page(buffer, *page, bytes),
         Record::Fix { below } => {
             let [low, high] = below.to_le_bytes();
-            put(buffer, &[3, low, high])
+            put(buffer, &[Kind::Fix.into(), low, high])
         }
         Record::Set { register, value } => {
             let [low, high] = value.to_le_bytes();
-            put(buffer, &[4, *register, low, high])
+            put(buffer, &[Kind::Set.into(), *register, low, high])
         }
         Record::Grant { states } => {
             let [a, b, c, d] = states.to_le_bytes();
-            put(buffer, &[5, a, b, c, d])
+            put(buffer, &[Kind::Grant.into(), a, b, c, d])
         }
-        Record::Signal { line } => put(buffer, &[6, *line]),
-        Record::Reset => put(buffer, &[7]),
-        Record::End => put(buffer, &[8]),
+        Record::Signal { line } => put(buffer, &[Kind::Signal.into(), *line]),
+        Record::Reset => put(buffer, &[Kind::Reset.into()]),
+        Record::End => put(buffer, &[Kind::End.into()]),
     }
 }
 
@@ -53,7 +54,7 @@ fn put_page(buffer: &mut [u8], number: u8, bytes: &[u8]) -> Result<usize, Record
     if bytes.len() != 256 || buffer.len() < 258 {
         return Err(RecordFault::NoRoom);
     }
-    buffer[0] = 2;
+    buffer[0] = Kind::Page.into();
     buffer[1] = number;
     buffer[2..258].copy_from_slice(bytes);
     Ok(258)
