@@ -116,10 +116,9 @@ fn a_page_is_that_part_of_the_session(rt: HostRuntime) -> Result<(), Fail> {
 
 /// Why a record is not read, by its number; 0 if it is.
 fn fault_at(session: &[u8], offset: usize) -> u8 {
-    match Record::read(session, offset) {
-        Ok(_) => 0,
-        Err(fault) => fault.number(),
-    }
+    Record::read(session, offset)
+        .err()
+        .map_or(0, |fault| fault.number())
 }
 
 #[test]

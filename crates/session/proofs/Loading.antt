@@ -1,47 +1,50 @@
 -- Playing a session record by record. Assumes nothing.
-use Rattle.std.proofs.Common.{◌≡◌, ℕ, zero, suc, ◌+◌, ◌-◌, ◌<◌, ◌≤◌, cond, List, length, get_or, drop, set, Ok, Err, Result, sym, refl, ap, ◌∙◌, arith}
+use Rattle.std.proofs.Common.{◌≡◌, ℕ, zero, suc, ◌+◌, ◌-◌, ◌<◌, ◌≤◌, true, ltb, List, length, get_or, drop, set, Ok, Err, Result, sym, refl, ap, ◌∙◌, arith}
 use Rattle.std.proofs.lemmas.List.{at_drop_more, at_drop_all}
 use Rattle.std.proofs.lemmas.Bool.{lt-ltb, le-ltb}
 use Rattle.session.specs.declared.fault.SessionFault.{SessionFault}
-use Rattle.session.specs.Faults.{place}
+use Rattle.session.specs.declared.fault.Place.{Place}
 use Rattle.session.specs.Load.{Loaded, Ending, stored, turned, turn_answer, turn_after, closed, onward, loads}
 
--- a record that plays, and one that does not
-onward_ok : (res : Result (Loaded × ℕ) SessionFault) (s t : Loaded) (k : ℕ) (go : Loaded → ℕ → Ending) → turn_answer res ≡ Ok k → t ≡ turn_after res s → onward res s go ≡ go t k
-onward_ok (Ok r) s t k go a e = let p : r.1 ≡ k = cc in (λ i. go (sym e i) (p i))
-onward_ok (Err f) s t k go a e = let z : ◌≡◌ {A = ℕ} 0 1 = cc in absurd (omega arith)
+-- a session that is at a place, in a state s
+module _ (session : List ℕ) (s : Loaded) (p : Place) (fewer : p.number ≤ p.offset) where
+  -- all that is left from here on
+  abbrev left : Ending
+  left = loads (1 + length session - p.number) s session p.number p.offset
 
-onward_err : (res : Result (Loaded × ℕ) SessionFault) (s t : Loaded) (f : SessionFault) (go : Loaded → ℕ → Ending) → turn_answer res ≡ Err f → t ≡ turn_after res s → onward res s go ≡ (t, Err f)
-onward_err (Ok r) s t f go a e = let z : ◌≡◌ {A = ℕ} 0 1 = cc in absurd (omega arith)
-onward_err (Err g) s t f go a e = let p : g ≡ f = cc in (λ i. (sym e i, Err (p i)))
-
--- a session that is at record n and offset o, in a state s
-module _ (session : List ℕ) (s : Loaded) (n o : ℕ) (fewer : n ≤ o) where
-  module _ (t : Loaded) (inside : o < length session) (after : t ≡ turn_after (turned s session (place n o)) s) where
-    spare : 1 + length session - n ≡ suc (1 + length session - (n + 1))
-    spare = omega arith
-
+  module _ (t : Loaded) (inside : p.offset < length session) (after : t ≡ turn_after (turned s session p) s) where
     -- the turn at this record
-    this : loads (1 + length session - n) s session n o
-        ≡ onward (turned s session (place n o)) s (λ u k. loads (1 + length session - (n + 1)) u session (n + 1) (o + k))
+    this : left ≡ onward (turned s session p) s (λ u k. loads (1 + length session - (p.number + 1)) u session (p.number + 1) (p.offset + k))
     unfolding loads
-    this = ap (λ turns. loads turns s session n o) spare ∙ ap (λ b. cond b (onward (turned s session (place n o)) s (λ u k. loads (1 + length session - (n + 1)) u session (n + 1) (o + k))) (s, closed s (place n o))) (lt-ltb o (length session) inside)
+    this =
+        let spare : 1 + length session - p.number ≡ suc (1 + length session - (p.number + 1)) = omega arith in
+        let more : ltb p.offset (length session) ≡ true = lt-ltb p.offset (length session) inside in
+        rw (spare, more)
 
-    pub loads_more : (k : ℕ) → turn_answer (turned s session (place n o)) ≡ Ok k
-        → loads (1 + length session - (n + 1)) t session (n + 1) (o + k) ≡ loads (1 + length session - n) s session n o
-    loads_more k a = sym (this ∙ onward_ok (turned s session (place n o)) s t k _ a after)
+    pub loads_more : (q : Place) → turn_answer p (turned s session p) ≡ Ok q → loads (1 + length session - q.number) t session q.number q.offset ≡ left
+    loads_more q a = sym (this ∙ on (turned s session p) a after)
+      where
+        on : (res : Result (Loaded × ℕ) SessionFault) → turn_answer p res ≡ Ok q → t ≡ turn_after res s
+            → onward res s (λ u k. loads (1 + length session - (p.number + 1)) u session (p.number + 1) (p.offset + k)) ≡ loads (1 + length session - q.number) t session q.number q.offset
+        on (Ok r) e f = cc
+        on (Err g) e f = absurd (grind arith)
 
-    pub loads_fault : (f : SessionFault) → turn_answer (turned s session (place n o)) ≡ Err f → loads (1 + length session - n) s session n o ≡ (t, Err f)
-    loads_fault f a = this ∙ onward_err (turned s session (place n o)) s t f _ a after
+    pub loads_fault : (f : SessionFault) → turn_answer p (turned s session p) ≡ Err f → left ≡ (t, Err f)
+    loads_fault f a = this ∙ stop (turned s session p) a after
+      where
+        stop : (res : Result (Loaded × ℕ) SessionFault) → turn_answer p res ≡ Err f → t ≡ turn_after res s
+            → onward res s (λ u k. loads (1 + length session - (p.number + 1)) u session (p.number + 1) (p.offset + k)) ≡ (t, Err f)
+        stop (Ok r) e f = absurd (grind arith)
+        stop (Err g) e f = cc
 
   -- at the session's end
-  at_end : (turns : ℕ) → length session ≤ o → loads turns s session n o ≡ (s, closed s (place n o))
+  at_end : (turns : ℕ) → length session ≤ p.offset → loads turns s session p.number p.offset ≡ (s, closed s p)
   unfolding loads
   at_end zero h = refl
-  at_end (suc turns) h = ap (λ b. cond b (onward (turned s session (place n o)) s (λ u k. loads turns u session (n + 1) (o + k))) (s, closed s (place n o))) (le-ltb o (length session) h)
+  at_end (suc turns) h = rw (le-ltb p.offset (length session) h)
 
-  pub loads_end : length session ≤ o → loads (1 + length session - n) s session n o ≡ (s, closed s (place n o))
-  loads_end = at_end (1 + length session - n)
+  pub loads_end : length session ≤ p.offset → left ≡ (s, closed s p)
+  loads_end = at_end (1 + length session - p.number)
 
 -- one more byte of a page, and none left
 pub stored_more : (m : List ℕ) (a i : ℕ) (bs : List ℕ) → i < length bs → stored (set m (a + i) (get_or bs i 0)) (a + (i + 1)) (drop (i + 1) bs) ≡ stored m (a + i) (drop i bs)

@@ -1,5 +1,5 @@
 -- What the records of a session make, one after the other.
-use Rattle.std.specs.Prelude.{ℕ, zero, suc, ◌+◌, ◌*◌, Bool, true, false, cond, List, [], ◌∷◌, length, Some, None, Ok, Err, vec_items, Option, Result, nat_lt, slice_index}
+use Rattle.std.specs.Prelude.{ℕ, zero, suc, ◌+◌, ◌*◌, Bool, true, false, cond, List, [], ◌∷◌, length, Some, None, Ok, Err, Option, Result, nat_lt, slice_index}
 use Rattle.std.proofs.Math.ListN as lists
 use Rattle.record.specs.declared.fault.RecordFault.{RecordFault}
 use Rattle.record.specs.declared.fault.RecordFault.TheVariants.{UnknownKind}
@@ -12,7 +12,6 @@ use Rattle.registers.specs.Bench.{bench_core, setting}
 use Rattle.session.specs.declared.fault.Place.{Place}
 use Rattle.session.specs.declared.fault.SessionFault.{SessionFault}
 use Rattle.session.specs.declared.fault.SessionFault.TheVariants.{Register, Broken, OutOfPlace}
-use Rattle.session.specs.declared.load.Loader.{Loader}
 use Rattle.session.specs.Faults.{place}
 
 -- a bench core, the number F below which addresses will be fixed, a memory, and whether END was played
@@ -28,9 +27,6 @@ loaded core below memory ended = record { core = core; below = below; memory = m
 -- a bench core over a memory, nothing fixed
 abbrev pub fresh : List ℕ → Loaded
 fresh memory = loaded bench_core 0 memory false
-
-abbrev pub view : Loader → Loaded
-view l = loaded l.core.core l.fixed_below (vec_items l.memory) l.ended
 
 -- bytes put into a memory from an address up, as far as it reaches
 unfoldable pub stored : List ℕ → ℕ → List ℕ → List ℕ
@@ -80,9 +76,10 @@ turned s session p =
     (cond s.ended (Err (OutOfPlace p)) (judged p s (finding session p.offset)))
     (Err (Broken UnknownKind p))
 
-abbrev pub turn_answer : Result (Loaded × ℕ) SessionFault → Result ℕ SessionFault
-turn_answer (Ok r) = Ok r.1
-turn_answer (Err fault) = Err fault
+-- the place behind a record that was played
+abbrev pub turn_answer : Place → Result (Loaded × ℕ) SessionFault → Result Place SessionFault
+turn_answer p (Ok r) = Ok (place (p.number + 1) (p.offset + r.1))
+turn_answer p (Err fault) = Err fault
 
 abbrev pub turn_after : Result (Loaded × ℕ) SessionFault → Loaded → Loaded
 turn_after (Ok r) before = r.0

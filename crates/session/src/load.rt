@@ -2,14 +2,15 @@
 ghost use Rattle.std.specs.Prelude.{◌≡◌, ℕ, ◌+◌, ◌*◌, ◌<◌, ◌≤◌, length, IfOk, slice_set};
 ghost use Rattle.record.specs.Wire.{said, kind_of};
 ghost use Rattle.registers.specs.Answers.{answer_of, left_by};
-ghost use Rattle.session.specs.Load.{view, fresh, stored, load, plays, turned, turn_answer, turn_after, load_all};
+ghost use Rattle.session.specs.Load.{fresh, stored, load, plays, turned, turn_answer, turn_after, load_all};
 
-use crate::fault::{At, Place, SessionFault, located};
+use crate::fault::{At, Place, SessionFault};
 use record::fault::RecordFault;
 use record::kind::Kind;
 use record::types::Record;
 use registers::bench::BenchCore;
 use registers::fault::RegisterFault;
+use std::marker::Model;
 
 /// What a session has loaded so far.
 #[derive(Drop)]
@@ -20,10 +21,18 @@ pub(crate) struct Loader {
     pub(crate) ended: bool,
 }
 
+impl Model for Loader {
+    ghost use Rattle.session.specs.Load.{Loaded, loaded};
+
+    ghost Value = { Loaded };
+
+    ghost view = { λ l. loaded l.core l.fixed_below l.memory.items l.ended };
+}
+
 impl Loader {
     /// A bench core over a memory, nothing fixed.
     pub(crate) fn new(memory: Vec<u8>) -> Loader
-        ensures { view result ≡ fresh memory.items }
+        ensures { result ≡ fresh memory.items }
     {
         Loader {
             core: BenchCore::new(),
@@ -35,28 +44,26 @@ impl Loader {
 
     /// Plays a whole session.
     pub(crate) fn load_all(&mut self, session: &[u8]) -> Result<(), SessionFault>
-        ensures answer { result ≡ (load_all (view self.old) session.now).1 }
-        ensures after { view self.new ≡ (load_all (view self.old) session.now).0 }
+        ensures answer { result ≡ (load_all self.old session.now).1 }
+        ensures after { self.new ≡ (load_all self.old session.now).0 }
     {
-        let mut number = 0;
-        let mut offset = 0;
-        while offset < session.len() {
-            offset += self.turn(session, Place { number, offset })?;
-            number += 1;
+        let mut place = Place::default();
+        while place.offset < session.len() {
+            place = self.turn(session, place)?;
         }
-        if self.ended {
-            Ok(())
-        } else {
-            Err(SessionFault::OutOfPlace(Place { number, offset }))
+        if !self.ended {
+            return Err(SessionFault::OutOfPlace(place));
         }
+        Ok(())
     }
 
-    /// Plays the record at a place; its length.
-    fn turn(&mut self, session: &[u8], place: Place) -> Result<usize, SessionFault>
-        requires { place.offset < length session.now }
-        ensures answer { result ≡ turn_answer (turned (view self.old) session.now place) }
-        ensures after { view self.new ≡ turn_after (turned (view self.old) session.now place) (view self.old) }
-        ensures inside { IfOk result (λ n. (0 < n) × (place.offset + n ≤ length session.now)) }
+    /// Plays the record at a place; the place behind it.
+    fn turn(&mut self, session: &[u8], place: Place) -> Result<Place, SessionFault>
+        requires number { place.number ≤ place.offset }
+        requires offset { place.offset < length session.now }
+        ensures answer { result ≡ turn_answer place (turned self.old session.now place) }
+        ensures after { self.new ≡ turn_after (turned self.old session.now place) self.old }
+        ensures inside { IfOk result (λ next. (place.offset < next.offset) × (next.offset ≤ length session.now) × (next.number ≤ next.offset)) }
     {
         if !kind_plays(session[place.offset]) {
             return Err(SessionFault::Broken(RecordFault::UnknownKind, place));
@@ -64,15 +71,19 @@ impl Loader {
         if self.ended {
             return Err(SessionFault::OutOfPlace(place));
         }
-        let found = located(Record::read(session, place.offset), place)?;
-        located(self.load(&found.value), place)?;
-        Ok(found.length)
+        let found = Record::read(session, place.offset).map_err(|fault| At { fault, place })?;
+        self.load(&found.value)
+            .map_err(|fault| At { fault, place })?;
+        Ok(Place {
+            number: place.number + 1,
+            offset: place.offset + found.length,
+        })
     }
 
     /// What one record makes.
     fn load(&mut self, record: &Record<'_>) -> Result<(), RegisterFault>
-        ensures answer { result ≡ answer_of (load (said «record».now) (view self.old)) }
-        ensures after { view self.new ≡ left_by (load (said «record».now) (view self.old)) (view self.old) }
+        ensures answer { result ≡ answer_of (load (said «record».now) self.old) }
+        ensures after { self.new ≡ left_by (load (said «record».now) self.old) self.old }
     {
         match record {
             Record::Cell { address, byte } => store_byte(
@@ -97,10 +108,9 @@ impl Loader {
 fn kind_plays(byte: u8) -> bool
     ensures { result ≡ plays (kind_of byte) }
 {
-    match Kind::from_byte(byte) {
-        None => false,
-        Some(Kind::Cell | Kind::Page | Kind::Fix | Kind::Set | Kind::End) => true,
-        Some(Kind::Grant | Kind::Signal | Kind::Reset) => false,
+    match Kind::try_from(byte) {
+        Ok(Kind::Cell | Kind::Page | Kind::Fix | Kind::Set | Kind::End) => true,
+        Ok(Kind::Grant | Kind::Signal | Kind::Reset) | Err(_) => false,
     }
 }
 
@@ -108,8 +118,8 @@ fn kind_plays(byte: u8) -> bool
 fn store_byte(memory: &mut Vec<u8>, address: usize, byte: u8)
     ensures { memory.new.items ≡ slice_set memory.old.items address byte }
 {
-    if address < memory.len() {
-        memory[address] = byte;
+    if let Some(cell) = memory.get_mut(address) {
+        *cell = byte;
     }
 }
 

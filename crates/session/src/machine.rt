@@ -23,9 +23,9 @@ pub(crate) struct Machine {
 impl Loader {
     /// What the session loaded, with a fresh panel.
     pub(crate) fn into_machine(self) -> Machine
-        ensures core { result.core ≡ self.core.core }
-        ensures cells { flat_of result.board ≡ flat_cells self.memory.items self.fixed_below }
-        ensures rest { flat_rest_of result.board ≡ flat_rest self.memory.items self.fixed_below }
+        ensures core { result.core ≡ self.core }
+        ensures cells { flat_of result.board ≡ flat_cells self.memory self.below }
+        ensures rest { flat_rest_of result.board ≡ flat_rest self.memory self.below }
         ensures panel { timers_of bench_of result.panel ≡ quiet }
     {
         let Loader {

@@ -1,6 +1,5 @@
 // Plays a session on a memory, and lists what came of it.
 ghost use Rattle.std.specs.Prelude.{◌≡◌, ℕ, ◌≤◌, length};
-ghost use Rattle.session.specs.Load.{view};
 ghost use Rattle.session.specs.Play.{played, ending, listed};
 ghost use Rattle.session.specs.Text.{Puts};
 
@@ -51,9 +50,9 @@ pub fn play(session: &[u8], memory: Vec<u8>, listing: &mut [u8]) -> Outcome
 /// Writes the sheet of what was loaded, or the line of the fault.
 fn list(loader: Loader, answer: Result<(), SessionFault>, listing: &mut [u8]) -> Outcome
     requires { 2048 ≤ length listing.old }
-    ensures fault { result.fault ≡ (ending (view loader) answer).fault }
-    ensures memory { result.memory.items ≡ (ending (view loader) answer).memory }
-    ensures listing { Puts listing.old 0 (ending (view loader) answer).text listing.new result.written }
+    ensures fault { result.fault ≡ (ending loader answer).fault }
+    ensures memory { result.memory.items ≡ (ending loader answer).memory }
+    ensures listing { Puts listing.old 0 (ending loader answer).text listing.new result.written }
 {
     match answer {
         Ok(()) => {

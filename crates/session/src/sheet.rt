@@ -45,7 +45,7 @@ impl Listing<'_> {
         self.word(b"PC ", registers.pc);
         self.word(b" SP ", registers.sp);
         self.word(b" EA ", registers.ea);
-        self.byte(b" PSW ", registers.flags.byte());
+        self.byte(b" PSW ", registers.flags.into());
         self.text(b"\n");
     }
 

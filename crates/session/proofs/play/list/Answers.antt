@@ -1,7 +1,6 @@
-use Rattle.std.proofs.Common.{vec_items, sym, ap, ◌∙◌}
+use Rattle.std.proofs.Common.{sym, ap, ◌∙◌}
 use Rattle.board.specs.Flat.{flat_memory}
 use Rattle.board.proofs.Memory.{memory_back}
-use Rattle.session.specs.Load.{view}
 use Rattle.session.specs.Play.{ending}
 use Rattle.session.specs.Sheet.{sheet}
 use Rattle.session.proofs.Putting.{puts_text}
@@ -9,9 +8,9 @@ use Rattle.session.proofs.play.list.Goals as goal
 
 pub returns-in-Ok : goal.returns-in-Ok
 returns-in-Ok c =
-    let all = sym (ap (ending (view c.args.loader)) c.in-Ok.is) in
+    let all = sym (ap (ending c.args.loader) c.in-Ok.is) in
     let m = c.into_machine-board.ensures in
-    let back = (λ i. flat_memory (m.cells i) (m.rest i)) ∙ sym (memory_back (vec_items c.args.loader.memory) c.args.loader.fixed_below) in
+    let back = (λ i. flat_memory (m.cells i) (m.rest i)) ∙ sym (memory_back c.args.loader.memory c.args.loader.below) in
     record {
       fault = ap (λ p. p.fault) all;
       memory = c.into_memory.ensures ∙ back ∙ ap (λ p. p.memory) all;
