@@ -15,7 +15,7 @@ use crate::shifts::{rotate_left, rotate_right, shift_ea, shift_register, shift_r
 use alu::{Operation, Shift};
 use board::Board;
 use machine::Arithmetic;
-use operands::{step_down, step_up};
+use operands::step;
 use registers::bank::ByteRegister;
 use registers::file::Registers;
 
@@ -48,8 +48,8 @@ pub fn compute<B: Board>(registers: &mut Registers, board: &mut B, instruction: 
         Arithmetic::Dcr(r2) => decrement_register(registers, of_r2(r2)),
         Arithmetic::Inrw => increment_working(registers, board),
         Arithmetic::Dcrw => decrement_working(registers, board),
-        Arithmetic::Inx(rp2) => step_up(registers, rp2.into(), 1),
-        Arithmetic::Dcx(rp2) => step_down(registers, rp2.into()),
+        Arithmetic::Inx(rp2) => step(registers, rp2.into(), 1),
+        Arithmetic::Dcx(rp2) => step(registers, rp2.into(), -1),
         Arithmetic::Daa => adjust_a(registers),
         Arithmetic::Stc => registers.flags.carry = true,
         Arithmetic::Clc => registers.flags.carry = false,

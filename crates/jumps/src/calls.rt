@@ -1,4 +1,5 @@
 // Calls, and the software interrupt.
+// Registers and board are two parameters: `&` and `&mut` say which of them a function changes.
 ghost use Rattle.std.specs.Prelude.{◌≡◌};
 ghost use Rattle.machine.specs.Effects.{Acts};
 ghost use Rattle.machine.specs.Control.{called, called_to_word, called_fixed, called_by_bc, called_by_table, soft_interrupted};

@@ -1,4 +1,5 @@
 // The choice of a jump, a call or a return.
+// Registers and board are two parameters: `&` and `&mut` say which of them a function changes.
 ghost use Rattle.std.specs.Prelude.{◌≡◌};
 ghost use Rattle.machine.specs.Effects.{Acts};
 ghost use Rattle.machine.specs.Instructions.{directed};

@@ -1,4 +1,5 @@
 // Jumps and returns.
+// Registers and board are two parameters: `&` and `&mut` say which of them a function changes.
 ghost use Rattle.std.specs.Prelude.{◌≡◌};
 ghost use Rattle.machine.specs.Control.{jumped_to_word, jumped_by_register, jumped_by_six, jumped_by_nine, returned, returned_skipping, returned_from_interrupt};
 
@@ -13,16 +14,14 @@ use registers::flags::Flags;
 pub(crate) fn jump<B: Board>(registers: &mut Registers, board: &B)
     ensures { registers.new ≡ jumped_to_word (B.Board.cells board.now) registers.old }
 {
-    let target = read_data_word(registers, board);
-    registers.pc = target;
+    registers.pc = read_data_word(registers, board);
 }
 
 /// JB and JEA.
 pub(crate) fn jump_by(registers: &mut Registers, which: WordRegister)
     ensures { registers.new ≡ jumped_by_register which registers.old }
 {
-    let target = get_word(registers, which);
-    registers.pc = target;
+    registers.pc = get_word(registers, which);
 }
 
 /// JR.

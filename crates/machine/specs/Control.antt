@@ -93,16 +93,14 @@ skipped_off f s = with_skip (not (flag_in f s.flags)) s
 -- SKIT and SKNIT: skip if the line waits, or if it does not; its mark is cleared
 module _ {S : Type 0} where
   abbrev pub line_tested : (Bool → Bool) → Line → Model S → Model S
-  line_tested wanted line m = record {
+  line_tested wanted line m = record m {
     core = core_with (with_skip (wanted (m.requests (number_of line)).waiting) m.core.registers) m.core;
-    cells = m.cells;
-    standing = m.standing;
     requests = at_line (number_of line) testing m.requests;
   }
 
 -- EI, DI and HLT
 abbrev pub modes_are : Bool → Bool → Bool → Core → Core
-modes_are interrupts halted after core = record { registers = core.registers; mkl = core.mkl; mkh = core.mkh; interrupts = interrupts; halted = halted; after_ei = after }
+modes_are interrupts halted after core = record core { interrupts = interrupts; halted = halted; after_ei = after }
 
 abbrev pub enabled : Core → Core
 enabled core = modes_are true core.halted true core

@@ -8,19 +8,19 @@ use Rattle.registers.specs.declared.file.Registers.{Registers}
 use Rattle.registers.specs.Numbering.{held, holding}
 
 abbrev pub with_main : Bank → Registers → Registers
-with_main bank s = record { main = bank; alternate = s.alternate; ea = s.ea; ea_alternate = s.ea_alternate; sp = s.sp; pc = s.pc; flags = s.flags }
+with_main bank s = record s { main = bank }
 
 abbrev pub with_ea : ℕ → Registers → Registers
-with_ea x s = record { main = s.main; alternate = s.alternate; ea = x; ea_alternate = s.ea_alternate; sp = s.sp; pc = s.pc; flags = s.flags }
+with_ea x s = record s { ea = x }
 
 abbrev pub with_sp : ℕ → Registers → Registers
-with_sp x s = record { main = s.main; alternate = s.alternate; ea = s.ea; ea_alternate = s.ea_alternate; sp = x; pc = s.pc; flags = s.flags }
+with_sp x s = record s { sp = x }
 
 abbrev pub with_pc : ℕ → Registers → Registers
-with_pc x s = record { main = s.main; alternate = s.alternate; ea = s.ea; ea_alternate = s.ea_alternate; sp = s.sp; pc = x; flags = s.flags }
+with_pc x s = record s { pc = x }
 
 abbrev pub with_flags : Flags → Registers → Registers
-with_flags f s = record { main = s.main; alternate = s.alternate; ea = s.ea; ea_alternate = s.ea_alternate; sp = s.sp; pc = s.pc; flags = f }
+with_flags f s = record s { flags = f }
 
 -- a byte register, and the registers with it replaced
 abbrev pub byte_in : ByteRegister → Registers → ℕ
@@ -34,17 +34,17 @@ with_a x s = with_byte A x s
 
 -- the flags with SK, with CY, with L1 and L0
 abbrev pub skip_is : Bool → Flags → Flags
-skip_is x f = record { zero = f.zero; skip = x; half = f.half; l1 = f.l1; l0 = f.l0; carry = f.carry }
+skip_is x f = record f { skip = x }
 
 abbrev pub carry_is : Bool → Flags → Flags
-carry_is x f = record { zero = f.zero; skip = f.skip; half = f.half; l1 = f.l1; l0 = f.l0; carry = x }
+carry_is x f = record f { carry = x }
 
 abbrev pub overlay_is : Bool → Bool → Flags → Flags
-overlay_is one zero f = record { zero = f.zero; skip = f.skip; half = f.half; l1 = one; l0 = zero; carry = f.carry }
+overlay_is one zero f = record f { l1 = one; l0 = zero }
 
 -- SK, L1 and L0 clear
 abbrev pub plain : Flags → Flags
-plain f = record { zero = f.zero; skip = false; half = f.half; l1 = false; l0 = false; carry = f.carry }
+plain f = record f { skip = false; l1 = false; l0 = false }
 
 -- the registers with SK, and with CY
 abbrev pub with_skip : Bool → Registers → Registers

@@ -75,24 +75,21 @@ indirect_stored place q = reach (rpa2_used place q.registers) (written q.cells (
 
 -- a bank with the registers from B on, and with H and L, of another
 abbrev pub from_b_on : Bank → Bank → Bank
-from_b_on other own = record { v = own.v; a = own.a; b = other.b; c = other.c; d = other.d; e = other.e; h = other.h; l = other.l }
+from_b_on other own = record other { v = own.v; a = own.a }
 
 abbrev pub h_and_l : Bank → Bank → Bank
-h_and_l other own = record { v = own.v; a = own.a; b = own.b; c = own.c; d = own.d; e = own.e; h = other.h; l = other.l }
+h_and_l other own = record own { h = other.h; l = other.l }
 
 abbrev pub v_and_a : Bank → Bank → Bank
-v_and_a other own = record { v = other.v; a = other.a; b = own.b; c = own.c; d = own.d; e = own.e; h = own.h; l = own.l }
+v_and_a other own = record own { v = other.v; a = other.a }
 
 -- EXX, EXA and EXH: registers exchanged with their alternates
 abbrev pub exchanged : (Bank → Bank → Bank) → ℕ → ℕ → Registers → Registers
-exchanged part ea alternate s = record {
+exchanged part ea alternate s = record s {
   main = part s.alternate s.main;
   alternate = part s.main s.alternate;
   ea = ea;
   ea_alternate = alternate;
-  sp = s.sp;
-  pc = s.pc;
-  flags = s.flags;
 }
 
 abbrev pub b_to_l_exchanged : Registers → Registers
@@ -156,7 +153,7 @@ module _ {S : Type 0} (rules : Rules S) where
   special code p = cond (eqb code 6) p.core.mkh (cond (eqb code 7) p.core.mkl (rules.shown p.standing (code_of code)))
 
   abbrev pub masks_are : ℕ → ℕ → Core → Core
-  masks_are h l core = record { registers = core.registers; mkl = l; mkh = h; interrupts = core.interrupts; halted = core.halted; after_ei = core.after_ei }
+  masks_are h l core = record core { mkl = l; mkh = h }
 
   abbrev pub special_put : ℕ → ℕ → Ports S → Ports S
   special_put code x p =

@@ -1,4 +1,5 @@
 // Words in memory and on the stack, and the data bytes of an instruction, which PC is past already.
+// Registers and board are two parameters: `&` and `&mut` say which of them a function changes.
 ghost use Rattle.std.specs.Prelude.{◌≡◌};
 ghost use Rattle.machine.specs.Effects.{Writes};
 ghost use Rattle.machine.specs.Words.{word_at, pushed};
@@ -41,7 +42,7 @@ pub fn data_byte<B: Board>(registers: &Registers, board: &B) -> u8
     board.read(registers.pc.wrapping_sub(1))
 }
 
-// The first of two data bytes.
+// The first of two data bytes. Two names say more at a call than one name with a number.
 pub fn first_data_byte<B: Board>(registers: &Registers, board: &B) -> u8
     ensures { result ≡ byte_before (B.Board.cells board.now) registers.now }
 {

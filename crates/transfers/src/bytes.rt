@@ -1,14 +1,16 @@
 // Transfers of a byte.
+// Registers and board are two parameters: `&` and `&mut` say which of them a function changes.
 ghost use Rattle.std.specs.Prelude.{◌≡◌};
 ghost use Rattle.machine.specs.Effects.{Acts, Writes};
 ghost use Rattle.machine.specs.Transfer.{to_r1, from_r1, direct_loaded, direct_stored, immediate as byte_immediate, working_immediate, indirect_immediate, working_loaded, working_stored, indirect_loaded, indirect_stored, block_moved, block_step};
 
 use crate::named::{get_r1, set_r1};
+use crate::overlay::mark_load;
 use board::Board;
 use isa::{R1, Rpa2};
 use machine::WordRegister;
 use operands::{
-    data_byte, first_data_byte, get_word, read_data_word, rpa2_address, step_up, use_rpa2,
+    data_byte, first_data_byte, get_word, read_data_word, rpa2_address, step, use_rpa2,
     working_address,
 };
 use registers::bank::ByteRegister;
@@ -27,8 +29,7 @@ pub(crate) fn move_to_r1(registers: &mut Registers, r1: R1)
 pub(crate) fn move_from_r1(registers: &mut Registers, r1: R1)
     ensures { registers.new ≡ from_r1 r1 registers.old }
 {
-    let byte = get_r1(registers, r1);
-    registers.main.a = byte;
+    registers.main.a = get_r1(registers, r1);
 }
 
 /// MOV r,word.
@@ -62,15 +63,13 @@ pub(crate) fn load_immediate<B: Board>(
             if !before.l1 {
                 registers.main.a = byte;
             }
-            registers.flags.l1 = true;
-            registers.flags.l0 = false;
+            mark_load(registers, true, false);
         }
         ByteRegister::L => {
             if !before.l0 {
                 registers.main.l = byte;
             }
-            registers.flags.l1 = false;
-            registers.flags.l0 = true;
+            mark_load(registers, false, true);
         }
         _ => registers.main.set(register, byte),
     }
@@ -102,8 +101,7 @@ pub(crate) fn load_working<B: Board>(registers: &mut Registers, board: &B)
     ensures { registers.new ≡ working_loaded (B.Board.cells board.now) registers.old }
 {
     let wa = data_byte(registers, board);
-    let byte = board.read(working_address(registers, wa));
-    registers.main.a = byte;
+    registers.main.a = board.read(working_address(registers, wa));
 }
 
 /// STAW wa.
@@ -118,8 +116,7 @@ pub(crate) fn store_working<B: Board>(registers: &Registers, board: &mut B)
 pub(crate) fn load_indirect<B: Board>(registers: &mut Registers, board: &B, place: Rpa2)
     ensures { registers.new ≡ indirect_loaded place (B.Board.cells board.now) registers.old }
 {
-    let byte = board.read(rpa2_address(registers, board, place));
-    registers.main.a = byte;
+    registers.main.a = board.read(rpa2_address(registers, board, place));
     use_rpa2(registers, place);
 }
 
@@ -146,8 +143,8 @@ fn advance_block(registers: &mut Registers)
     ensures { registers.new ≡ block_moved registers.old }
 {
     let borrows = registers.main.c == 0;
-    step_up(registers, WordRegister::De, 1);
-    step_up(registers, WordRegister::Hl, 1);
+    step(registers, WordRegister::De, 1);
+    step(registers, WordRegister::Hl, 1);
     registers.main.c = registers.main.c.wrapping_sub(1);
     registers.flags.carry = borrows;
     if !borrows {

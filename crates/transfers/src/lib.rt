@@ -5,6 +5,7 @@ mod bytes;
 mod choice;
 mod exchange;
 mod named;
+mod overlay;
 mod word_places;
 mod words;
 

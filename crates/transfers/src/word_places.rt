@@ -1,4 +1,5 @@
 // The places in memory that rpa3 names, what their use makes of the pairs, and a word stored.
+// Registers and board are two parameters: `&` and `&mut` say which of them a function changes.
 ghost use Rattle.std.specs.Prelude.{◌≡◌};
 ghost use Rattle.machine.specs.Effects.{Writes};
 ghost use Rattle.machine.specs.Words.{word_stored};
@@ -7,9 +8,10 @@ ghost use Rattle.machine.specs.Operands.{rpa3_place, rpa3_used};
 use board::Board;
 use isa::Rpa3;
 use machine::WordRegister;
-use operands::{data_byte, get_word, step_up};
+use operands::{data_byte, get_word, step};
 use registers::file::Registers;
 
+// Not by way of rpa2: naming the addressing of a byte at the same place takes as many arms as finding the place.
 pub(crate) fn rpa3_address<B: Board>(registers: &Registers, board: &B, place: Rpa3) -> u16
     ensures { result ≡ rpa3_place place (B.Board.cells board.now) registers.now }
 {
@@ -30,8 +32,8 @@ pub(crate) fn use_rpa3(registers: &mut Registers, place: Rpa3)
     ensures { registers.new ≡ rpa3_used place registers.old }
 {
     match place {
-        Rpa3::DeUpTwo => step_up(registers, WordRegister::De, 2),
-        Rpa3::HlUpTwo => step_up(registers, WordRegister::Hl, 2),
+        Rpa3::DeUpTwo => step(registers, WordRegister::De, 2),
+        Rpa3::HlUpTwo => step(registers, WordRegister::Hl, 2),
         Rpa3::De | Rpa3::Hl | Rpa3::DeByte | Rpa3::HlA => {}
         Rpa3::HlB | Rpa3::HlEa | Rpa3::HlByte => {}
     }

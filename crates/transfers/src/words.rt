@@ -1,8 +1,10 @@
 // Transfers of a word.
+// Registers and board are two parameters: `&` and `&mut` say which of them a function changes.
 ghost use Rattle.std.specs.Prelude.{◌≡◌};
 ghost use Rattle.machine.specs.Effects.{Acts, Writes};
 ghost use Rattle.machine.specs.Transfer.{from_ea, to_ea, word_loaded, word_saved, ea_loaded, ea_stored, word_pushed, word_popped, word_immediate, from_table};
 
+use crate::overlay::mark_load;
 use crate::word_places::{rpa3_address, use_rpa3, write_word};
 use board::Board;
 use isa::Rpa3;
@@ -23,8 +25,7 @@ pub(crate) fn move_from_ea(registers: &mut Registers, pair: WordRegister)
 pub(crate) fn move_to_ea(registers: &mut Registers, pair: WordRegister)
     ensures { registers.new ≡ to_ea pair registers.old }
 {
-    let word = get_word(registers, pair);
-    registers.ea = word;
+    registers.ea = get_word(registers, pair);
 }
 
 /// LSPD, LBCD, LDED and LHLD word.
@@ -47,8 +48,7 @@ pub(crate) fn store_word<B: Board>(registers: &Registers, board: &mut B, pair: W
 pub(crate) fn load_ea<B: Board>(registers: &mut Registers, board: &B, place: Rpa3)
     ensures { registers.new ≡ ea_loaded place (B.Board.cells board.now) registers.old }
 {
-    let word = read_word(board, rpa3_address(registers, board, place));
-    registers.ea = word;
+    registers.ea = read_word(board, rpa3_address(registers, board, place));
     use_rpa3(registers, place);
 }
 
@@ -93,8 +93,7 @@ pub(crate) fn load_word_immediate<B: Board>(
             if !before.l0 {
                 set_word(registers, pair, word);
             }
-            registers.flags.l1 = false;
-            registers.flags.l0 = true;
+            mark_load(registers, false, true);
         }
         _ => set_word(registers, pair, word),
     }
