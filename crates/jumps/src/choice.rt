@@ -22,7 +22,7 @@ pub fn direct<B: Board>(registers: &mut Registers, board: &mut B, instruction: J
     match instruction {
         Jump::Jmp => jump(registers, board),
         Jump::Jb => jump_by(registers, WordRegister::Bc),
-        Jump::Jr(offset) => jump_relative(registers, offset),
+        Jump::Jr(offset) => jump_relative::<6>(registers, u16::from(offset)),
         Jump::JreForward => jump_extended(registers, board, 0),
         Jump::JreBackward => jump_extended(registers, board, 1),
         Jump::Jea => jump_by(registers, WordRegister::Ea),

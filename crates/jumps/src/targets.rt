@@ -1,9 +1,9 @@
 // Jumps and returns.
 // Registers and board are two parameters: `&` and `&mut` say which of them a function changes.
-ghost use Rattle.std.specs.Prelude.{◌≡◌};
-ghost use Rattle.machine.specs.Control.{jumped_to_word, jumped_by_register, jumped_by_six, jumped_by_nine, returned, returned_skipping, returned_from_interrupt};
+ghost use Rattle.std.specs.Prelude.{◌≡◌, min};
+ghost use Rattle.machine.specs.Control.{jumped_to_word, jumped_by_register, jumped_by, jumped_by_nine, returned, returned_skipping, returned_from_interrupt};
 
-use alu::{extend_nine, extend_six};
+use alu::extend;
 use board::Board;
 use machine::WordRegister;
 use operands::{data_byte, get_word, read_data_word, read_word};
@@ -24,11 +24,11 @@ pub(crate) fn jump_by(registers: &mut Registers, which: WordRegister)
     registers.pc = get_word(registers, which);
 }
 
-/// JR.
-pub(crate) fn jump_relative(registers: &mut Registers, offset: u8)
-    ensures { registers.new ≡ jumped_by_six offset registers.old }
+/// JR, by an offset of six bits, and JRE, by one of nine.
+pub(crate) fn jump_relative<const BITS: u32>(registers: &mut Registers, offset: u16)
+    ensures { registers.new ≡ jumped_by (min BITS 16) offset registers.old }
 {
-    registers.pc = registers.pc.wrapping_add_signed(extend_six(offset));
+    registers.pc = registers.pc.wrapping_add_signed(extend::<BITS>(offset));
 }
 
 /// JRE, with the ninth bit of its offset.
@@ -36,7 +36,7 @@ pub(crate) fn jump_extended<B: Board>(registers: &mut Registers, board: &B, nint
     ensures { registers.new ≡ jumped_by_nine ninth (B.Board.cells board.now) registers.old }
 {
     let offset = u16::from_be_bytes([ninth, data_byte(registers, board)]);
-    registers.pc = registers.pc.wrapping_add_signed(extend_nine(offset));
+    jump_relative::<9>(registers, offset);
 }
 
 /// RET.

@@ -26,12 +26,16 @@ jumped_to_word cells s = with_pc (data_word cells s) s
 abbrev pub jumped_by_register : WordRegister → Registers → Registers
 jumped_by_register p s = with_pc (word_in p s) s
 
--- JR: six bits, signed; JRE: nine bits, of which the opcode has the highest
+-- a jump by a signed offset of so many bits
+abbrev pub jumped_by : ℕ → ℕ → Registers → Registers
+jumped_by bits n s = with_pc (jumped s.pc (signed bits n)) s
+
+-- JR: six bits; JRE: nine bits, of which the opcode has the highest
 abbrev pub jumped_by_six : ℕ → Registers → Registers
-jumped_by_six n s = with_pc (jumped s.pc (signed 6 n)) s
+jumped_by_six n s = jumped_by 6 n s
 
 abbrev pub jumped_by_nine : ℕ → Cells → Registers → Registers
-jumped_by_nine top cells s = with_pc (jumped s.pc (signed 9 (word top (last_byte cells s)))) s
+jumped_by_nine top cells s = jumped_by 9 (word top (last_byte cells s)) s
 
 -- a call: PC is pushed and replaced
 abbrev pub called : ℕ → Reach → Reach
