@@ -1,9 +1,9 @@
 // Arithmetic, shifts and rotates on registers and memory.
 #![tactic(auto)]
 
+mod changes;
 mod choice;
 mod counting;
-mod named;
 mod operations;
 mod shifts;
 

@@ -1,6 +1,7 @@
 // The fifteen operations in their forms, products, decimal adjust.
+// Registers and board are two parameters: `&` and `&mut` say which of them a function changes.
 ghost use Rattle.std.specs.Prelude.{◌≡◌};
-ghost use Rattle.machine.specs.Model.{reach};
+ghost use Rattle.machine.specs.Effects.{Acts};
 ghost use Rattle.machine.specs.Arithmetic.{operated_on, operated_on_ea, operated_a, operated_r, operated_ea, operated_ea_byte, operated_x, operated_byte, operated_w, cell_operated, operated_w_byte, multiplied, divided, decimal_adjusted, a_negated};
 
 use alu::{Operation, Width, decimal_adjust, divide, multiply, negate, operate, operate_byte};
@@ -85,8 +86,7 @@ pub(crate) fn operate_working_cell<B: Board>(
     board: &mut B,
     operation: Operation,
 )
-    ensures after { reach registers.new (B.Board.cells board.new) ≡ operated_w_byte operation (reach registers.old (B.Board.cells board.old)) }
-    ensures keeps { B.Board.rest board.new ≡ B.Board.rest board.old }
+    ensures { Acts B.Board (operated_w_byte operation) (registers.old, board.old) (registers.new, board.new) }
 {
     let address = working_address(registers, first_data_byte(registers, board));
     let byte = data_byte(registers, board);
@@ -119,8 +119,7 @@ pub(crate) fn divide_by(registers: &mut Registers, register: ByteRegister)
 pub(crate) fn adjust_a(registers: &mut Registers)
     ensures { registers.new ≡ decimal_adjusted registers.old }
 {
-    let a = decimal_adjust(registers.main.a, &mut registers.flags);
-    registers.main.a = a;
+    registers.main.a = decimal_adjust(registers.main.a, &mut registers.flags);
 }
 
 /// NEGA.
