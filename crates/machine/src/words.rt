@@ -15,6 +15,7 @@ pub enum WordRegister {
     Sp,
 }
 
+// Each operand names words of its own, so each has a conversion of its own.
 impl From<Rp> for WordRegister {
     ghost from_gives = { λ rp word. word ≡ rp_word rp };
 
