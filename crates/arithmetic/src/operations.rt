@@ -8,7 +8,7 @@ use alu::{Operation, Width, decimal_adjust, divide, multiply, negate, operate, o
 use board::Board;
 use isa::Rpa2;
 use machine::WordRegister;
-use operands::{data_byte, first_data_byte, get_word, rpa2_address, use_rpa2, working_address};
+use operands::{data_byte, data_bytes, get_word, rpa2_address, use_rpa2, working_address};
 use registers::bank::ByteRegister;
 use registers::file::Registers;
 
@@ -88,8 +88,8 @@ pub(crate) fn operate_working_cell<B: Board>(
 )
     ensures { Acts B.Board (operated_w_byte operation) (registers.old, board.old) (registers.new, board.new) }
 {
-    let address = working_address(registers, first_data_byte(registers, board));
-    let byte = data_byte(registers, board);
+    let [wa, byte] = data_bytes(registers, board);
+    let address = working_address(registers, wa);
     let old = board.read(address);
     let value = operate_byte(operation, old, byte, &mut registers.flags);
     if operation.stores() {

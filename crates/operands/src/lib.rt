@@ -6,7 +6,7 @@ mod places;
 mod words;
 
 pub use memory::{
-    data_byte, first_data_byte, push_status, push_word, read_data_word, read_word, working_address,
+    data_byte, data_bytes, push_status, push_word, read_data_word, read_word, working_address,
 };
 pub use places::{rpa2_address, step, use_rpa2};
 pub use words::{get_word, set_word};

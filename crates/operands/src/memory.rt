@@ -1,6 +1,6 @@
 // Words in memory and on the stack, and the data bytes of an instruction, which PC is past already.
 // Registers and board are two parameters: `&` and `&mut` say which of them a function changes.
-ghost use Rattle.std.specs.Prelude.{◌≡◌};
+ghost use Rattle.std.specs.Prelude.{◌≡◌, [], ◌∷◌};
 ghost use Rattle.machine.specs.Effects.{Writes};
 ghost use Rattle.machine.specs.Words.{word_at, pushed};
 ghost use Rattle.machine.specs.Operands.{last_byte, byte_before, data_word, working};
@@ -12,9 +12,7 @@ use registers::file::Registers;
 pub fn read_word<B: Board>(board: &B, address: u16) -> u16
     ensures { result ≡ word_at (B.Board.cells board.now) address }
 {
-    let low = board.read(address);
-    let high = board.read(address.wrapping_add(1));
-    u16::from_be_bytes([high, low])
+    u16::from_le_bytes([board.read(address), board.read(address.wrapping_add(1))])
 }
 
 // The high byte is stored first.
@@ -36,25 +34,25 @@ pub fn push_status<B: Board>(board: &mut B, sp: u16, psw: u8, pc: u16)
     board.write(sp.wrapping_sub(3), low);
 }
 
+/// The data byte, or the last of two.
 pub fn data_byte<B: Board>(registers: &Registers, board: &B) -> u8
     ensures { result ≡ last_byte (B.Board.cells board.now) registers.now }
 {
     board.read(registers.pc.wrapping_sub(1))
 }
 
-// The first of two data bytes. Two names say more at a call than one name with a number.
-pub fn first_data_byte<B: Board>(registers: &Registers, board: &B) -> u8
-    ensures { result ≡ byte_before (B.Board.cells board.now) registers.now }
+/// Both data bytes, where there are two.
+pub fn data_bytes<B: Board>(registers: &Registers, board: &B) -> [u8; 2]
+    ensures { result ≡ byte_before (B.Board.cells board.now) registers.now ∷ last_byte (B.Board.cells board.now) registers.now ∷ [] }
 {
-    board.read(registers.pc.wrapping_sub(2))
+    let first = board.read(registers.pc.wrapping_sub(2));
+    [first, data_byte(registers, board)]
 }
 
 pub fn read_data_word<B: Board>(registers: &Registers, board: &B) -> u16
     ensures { result ≡ data_word (B.Board.cells board.now) registers.now }
 {
-    let low = first_data_byte(registers, board);
-    let high = data_byte(registers, board);
-    u16::from_be_bytes([high, low])
+    u16::from_le_bytes(data_bytes(registers, board))
 }
 
 // The address of a working cell.

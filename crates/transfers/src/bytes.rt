@@ -10,8 +10,7 @@ use board::Board;
 use isa::{R1, Rpa2};
 use machine::WordRegister;
 use operands::{
-    data_byte, first_data_byte, get_word, read_data_word, rpa2_address, step, use_rpa2,
-    working_address,
+    data_byte, data_bytes, get_word, read_data_word, rpa2_address, step, use_rpa2, working_address,
 };
 use registers::bank::ByteRegister;
 use registers::file::Registers;
@@ -79,9 +78,8 @@ pub(crate) fn load_immediate<B: Board>(
 pub(crate) fn store_working_immediate<B: Board>(registers: &Registers, board: &mut B)
     ensures { Writes B.Board (working_immediate registers.now) board.old board.new }
 {
-    let address = working_address(registers, first_data_byte(registers, board));
-    let byte = data_byte(registers, board);
-    board.write(address, byte);
+    let [wa, byte] = data_bytes(registers, board);
+    board.write(working_address(registers, wa), byte);
 }
 
 /// MVIX rpa1,byte.
