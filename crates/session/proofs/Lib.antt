@@ -1,3 +1,2 @@
 pub mod Putting
 pub mod Loading
-pub mod Playing

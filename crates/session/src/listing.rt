@@ -1,9 +1,9 @@
 // Writes text into a lent buffer, one piece behind the other.
-ghost use Rattle.std.specs.Prelude.{◌≡◌, ℕ, ◌+◌, ◌<◌, ◌≤◌, ◌++◌, length, decimal};
+ghost use Rattle.std.specs.Prelude.{◌≡◌, ◌+◌, ◌<◌, ◌≤◌, ◌++◌, length, decimal};
 ghost use Rattle.session.specs.Appends.{Appends, Room};
-ghost use Rattle.session.specs.Text.{Puts, hex, hex2, hex4};
+ghost use Rattle.session.specs.Text.{hex, hex2, hex4};
 
-/// A buffer and the position up to which it is written.
+/// A buffer and the position up to which it is written: the buffer is lent, so that nothing is allocated for a listing.
 #[derive(Drop)]
 pub(crate) struct Listing<'a> {
     pub(crate) buffer: &'a mut [u8],
@@ -11,12 +11,14 @@ pub(crate) struct Listing<'a> {
 }
 
 impl Listing<'_> {
+    /// Text behind what is written. Each line says how much room it needs, since each has a length of its own.
     pub(crate) fn text(&mut self, text: &[u8])
         requires { Room self.old (length text.now) }
         ensures { Appends self.old text.now self.new }
     {
-        let at = self.at;
-        self.at = put(self.buffer, at, text);
+        let end = self.at + text.len();
+        self.buffer[self.at..end].copy_from_slice(text);
+        self.at = end;
     }
 
     /// A byte in two hexadecimal digits, behind a label.
@@ -48,6 +50,7 @@ impl Listing<'_> {
         self.decimal(number);
     }
 
+    /// Its digits, written here, since no contract says that a write to a formatter succeeds.
     fn decimal(&mut self, number: u64)
         requires { Room self.old 20 }
         ensures text { Appends self.old (decimal number) self.new }
@@ -67,19 +70,5 @@ fn digit(value: u8) -> u8
     requires { value < 16 }
     ensures { result ≡ hex value }
 {
-    if value < 10 {
-        b'0' + value
-    } else {
-        b'A' - 10 + value
-    }
-}
-
-/// Puts a text at a position of a buffer; the position behind it.
-fn put(buffer: &mut [u8], at: usize, text: &[u8]) -> usize
-    requires { at + length text.now ≤ length buffer.old }
-    ensures { Puts buffer.old at text.now buffer.new result }
-{
-    let end = at + text.len();
-    buffer[at..end].copy_from_slice(text);
-    end
+    b"0123456789ABCDEF"[usize::from(value)]
 }

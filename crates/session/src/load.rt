@@ -94,8 +94,7 @@ impl Loader {
             Record::Page { page, bytes } => store_page(&mut self.memory, *page, bytes),
             Record::Fix { below } => self.fixed_below = *below,
             Record::Set { register, value } => {
-                let value = u32::from(*value);
-                return self.core.set(u32::from(*register), value);
+                self.core.set(u32::from(*register), u32::from(*value))?;
             }
             Record::End => self.ended = true,
             Record::Grant { .. } | Record::Signal { .. } | Record::Reset => {}
@@ -108,10 +107,10 @@ impl Loader {
 fn kind_plays(byte: u8) -> bool
     ensures { result ≡ plays (kind_of byte) }
 {
-    match Kind::try_from(byte) {
-        Ok(Kind::Cell | Kind::Page | Kind::Fix | Kind::Set | Kind::End) => true,
-        Ok(Kind::Grant | Kind::Signal | Kind::Reset) | Err(_) => false,
-    }
+    matches!(
+        Kind::try_from(byte),
+        Ok(Kind::Cell | Kind::Page | Kind::Fix | Kind::Set | Kind::End)
+    )
 }
 
 /// Puts a byte into memory, if it reaches so far.
@@ -123,7 +122,7 @@ fn store_byte(memory: &mut Vec<u8>, address: usize, byte: u8)
     }
 }
 
-/// Puts a page's bytes into memory.
+/// Puts a page's bytes into memory, by a loop with an index over them, since each goes where its index says and past the end none does.
 fn store_page(memory: &mut Vec<u8>, page: u8, bytes: &[u8])
     ensures { memory.new.items ≡ stored memory.old.items (256 * page) bytes.now }
 {

@@ -1,12 +1,12 @@
 // Plays a session on a memory, and lists what came of it.
-ghost use Rattle.std.specs.Prelude.{◌≡◌, ℕ, ◌≤◌, length};
+ghost use Rattle.std.specs.Prelude.{◌≡◌, ◌≤◌, length};
 ghost use Rattle.session.specs.Play.{played, ending, listed};
 ghost use Rattle.session.specs.Text.{Puts};
 
 use crate::fault::SessionFault;
+use crate::listing::Listing;
 use crate::load::Loader;
 use crate::machine::Machine;
-use crate::sheet::{put_fault, put_sheet};
 
 /// The fewest bytes of a listing buffer: enough for any listing.
 pub const ROOM: usize = 2048;
@@ -15,11 +15,25 @@ pub const ROOM: usize = 2048;
 pub const LONGEST: usize = 16384;
 
 /// What playing a session comes to: the memory, how much was written at the start of the listing, and the fault.
+/// The memory comes back after a fault too, and a fault has a line as the sheet has its lines, so this is no `Result`.
 #[derive(Drop)]
 pub struct Outcome {
     pub memory: Vec<u8>,
     pub written: usize,
     pub fault: Option<SessionFault>,
+}
+
+impl Outcome {
+    /// Refused before anything is read or written.
+    fn refused(memory: Vec<u8>, fault: SessionFault) -> Outcome
+        ensures { result ≡ record { memory = memory; written = 0; fault = Some fault } }
+    {
+        Outcome {
+            memory,
+            written: 0,
+            fault: Some(fault),
+        }
+    }
 }
 
 /// Plays a session on a memory, nothing of it fixed at first, and writes the sheet or the line of the fault.
@@ -29,18 +43,10 @@ pub fn play(session: &[u8], memory: Vec<u8>, listing: &mut [u8]) -> Outcome
     ensures listing { Puts listing.old 0 (played (length listing.old) session.now (memory.items)).text listing.new result.written }
 {
     if listing.len() < ROOM {
-        return Outcome {
-            memory,
-            written: 0,
-            fault: Some(SessionFault::ListingShort),
-        };
+        return Outcome::refused(memory, SessionFault::ListingShort);
     }
     if session.len() > LONGEST {
-        return Outcome {
-            memory,
-            written: 0,
-            fault: Some(SessionFault::SessionLong),
-        };
+        return Outcome::refused(memory, SessionFault::SessionLong);
     }
     let mut loader = Loader::new(memory);
     let answer = loader.load_all(session);
@@ -54,22 +60,25 @@ fn list(loader: Loader, answer: Result<(), SessionFault>, listing: &mut [u8]) ->
     ensures memory { result.memory.items ≡ (ending loader answer).memory }
     ensures listing { Puts listing.old 0 (ending loader answer).text listing.new result.written }
 {
+    let mut listing = Listing {
+        buffer: listing,
+        at: 0,
+    };
     match answer {
         Ok(()) => {
             let Machine { core, board, .. } = loader.into_machine();
-            let written = put_sheet(listing, &core.registers);
+            listing.sheet(&core.registers);
             Outcome {
                 memory: board.into_memory(),
-                written,
+                written: listing.at,
                 fault: None,
             }
         }
         Err(fault) => {
-            let place = fault.place();
-            let written = put_fault(listing, fault.number(), place.number, place.offset);
+            listing.fault(fault);
             Outcome {
                 memory: loader.memory,
-                written,
+                written: listing.at,
                 fault: Some(fault),
             }
         }

@@ -1,41 +1,32 @@
 // The lines of a listing: the sheet of a core, and the line of a fault.
-ghost use Rattle.std.specs.Prelude.{◌≤◌, ◌++◌, length};
+ghost use Rattle.std.specs.Prelude.{◌++◌};
 ghost use Rattle.session.specs.Appends.{Appends, Room};
-ghost use Rattle.session.specs.Sheet.{pointer_line, bank_line, meter_line, sheet, fault_line};
-ghost use Rattle.session.specs.Text.{Puts};
+ghost use Rattle.session.specs.Play.{fault_text};
+ghost use Rattle.session.specs.Sheet.{pointer_line, bank_line, meter_line, sheet};
 
+use crate::fault::{Place, SessionFault};
 use crate::listing::Listing;
 use registers::bank::Bank;
 use registers::file::Registers;
 
-/// Writes the sheet of a core that has not run; its length.
-pub(crate) fn put_sheet(buffer: &mut [u8], registers: &Registers) -> usize
-    requires { 2048 ≤ length buffer.old }
-    ensures { Puts buffer.old 0 (sheet registers.now) buffer.new result }
-{
-    let mut listing = Listing { buffer, at: 0 };
-    listing.whole_sheet(registers);
-    listing.at
-}
-
-/// Writes the line of a fault; its length.
-pub(crate) fn put_fault(buffer: &mut [u8], number: u8, record_number: usize, offset: usize) -> usize
-    requires { 2048 ≤ length buffer.old }
-    ensures { Puts buffer.old 0 (fault_line number record_number offset) buffer.new result }
-{
-    let mut listing = Listing { buffer, at: 0 };
-    listing.fault(number, record_number, offset);
-    listing.at
+/// What a core was granted and what became of it, all zero until it runs.
+#[derive(Clone, Copy, Default)]
+struct Meter {
+    granted: u64,
+    ahead: u64,
+    spent: u64,
+    forfeited: u64,
 }
 
 impl Listing<'_> {
-    fn whole_sheet(&mut self, registers: &Registers)
+    /// The sheet of a core that has not run.
+    pub(crate) fn sheet(&mut self, registers: &Registers)
         requires { Room self.old 157 }
         ensures { Appends self.old (sheet registers.now) self.new }
     {
         self.pointers(registers);
         self.bank(&registers.main);
-        self.meter(0, 0, 0, 0);
+        self.meter(Meter::default());
     }
 
     fn pointers(&mut self, registers: &Registers)
@@ -64,23 +55,25 @@ impl Listing<'_> {
         self.text(b"\n");
     }
 
-    fn meter(&mut self, granted: u64, ahead: u64, spent: u64, forfeited: u64)
+    fn meter(&mut self, meter: Meter)
         requires { Room self.old 86 }
-        ensures { Appends self.old (meter_line granted ahead spent forfeited) self.new }
+        ensures { Appends self.old (meter_line meter.granted meter.ahead meter.spent meter.forfeited) self.new }
     {
-        self.number(b"M ", granted);
-        self.number(b" ", ahead);
-        self.number(b" ", spent);
-        self.number(b" ", forfeited);
+        self.number(b"M ", meter.granted);
+        self.number(b" ", meter.ahead);
+        self.number(b" ", meter.spent);
+        self.number(b" ", meter.forfeited);
         self.text(b"\n");
     }
 
-    fn fault(&mut self, number: u8, record_number: usize, offset: usize)
+    /// The line of a fault.
+    pub(crate) fn fault(&mut self, fault: SessionFault)
         requires { Room self.old 65 }
-        ensures { Appends self.old (fault_line number record_number offset) self.new }
+        ensures { Appends self.old (fault_text fault) self.new }
     {
-        self.number(b"F ", u64::from(number));
-        self.number(b" ", record_number as u64);
+        let Place { number, offset } = fault.place();
+        self.number(b"F ", u64::from(fault.number()));
+        self.number(b" ", number as u64);
         self.number(b" ", offset as u64);
         self.text(b"\n");
     }

@@ -6,7 +6,7 @@ use session::printout::printout;
 use std::io::{Read, Write};
 
 // One byte more than a session may have tells one that is too long, and an input without end is not read on.
-fn run(rt: &HostRuntime) -> anyhow::Result<()> {
+fn main(rt: HostRuntime) -> anyhow::Result<()> {
     let mut session = Vec::new(rt.alloc());
     rt.stdin()
         .take(LONGEST as u64 + 1)
@@ -16,8 +16,4 @@ fn run(rt: &HostRuntime) -> anyhow::Result<()> {
     out.write_all(&listing)?;
     out.flush()?;
     Ok(())
-}
-
-fn main(rt: HostRuntime) -> anyhow::Result<()> {
-    run(&rt)
 }

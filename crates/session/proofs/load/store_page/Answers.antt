@@ -1,10 +1,7 @@
-use Rattle.std.proofs.Common.{◌+◌, ◌*◌, drop, vec_items, sym, ap, ◌∙◌, add-zero}
+use Rattle.std.proofs.Common.{◌+◌, ◌*◌, drop, vec_items, sym, ap, ◌∙◌}
 use Rattle.session.specs.Load.{stored}
 use Rattle.session.proofs.Loading.{stored_more, stored_all}
 use Rattle.session.proofs.load.store_page.Goals as goal
-
-pub loop-i-init : goal.loop-i-init
-loop-i-init c = rw add-zero
 
 pub loop-i-preserved : goal.loop-i-preserved
 loop-i-preserved c =

@@ -1,4 +1,4 @@
-use Rattle.std.proofs.Common.{sym, ap, ◌∙◌}
+use Rattle.std.proofs.Common.{sym, ap, ◌∙◌, rules}
 use Rattle.board.specs.Flat.{flat_memory}
 use Rattle.board.proofs.Memory.{memory_back}
 use Rattle.session.specs.Play.{ending}
@@ -6,13 +6,14 @@ use Rattle.session.specs.Sheet.{sheet}
 use Rattle.session.proofs.Putting.{puts_text}
 use Rattle.session.proofs.play.list.Goals as goal
 
-pub returns-in-Ok : goal.returns-in-Ok
-returns-in-Ok c =
-    let all = sym (ap (ending c.args.loader) c.in-Ok.is) in
+pub returns-in-Ok-clause-memory : goal.returns-in-Ok-clause-memory
+returns-in-Ok-clause-memory c =
     let m = c.into_machine-board.ensures in
-    let back = (λ i. flat_memory (m.cells i) (m.rest i)) ∙ sym (memory_back c.args.loader.memory c.args.loader.below) in
-    record {
-      fault = ap (λ p. p.fault) all;
-      memory = c.into_memory.ensures ∙ back ∙ ap (λ p. p.memory) all;
-      listing = puts_text (ap (λ core. sheet core.registers) m.core ∙ ap (λ p. p.text) all) c.put_sheet-written.ensures;
-    }
+    c.into_memory.ensures
+    ∙ (λ i. flat_memory (m.cells i) (m.rest i))
+    ∙ sym (memory_back c.args.loader.memory c.args.loader.below)
+    ∙ ap (λ answer. (ending c.args.loader answer).memory) (sym c.in-Ok.is)
+
+pub returns-in-Ok-clause-listing : goal.returns-in-Ok-clause-listing
+returns-in-Ok-clause-listing c =
+    puts_text (ap (λ core. sheet core.registers) c.into_machine-board.ensures.core ∙ ap (λ answer. (ending c.args.loader answer).text) (sym c.in-Ok.is)) (search rules)
