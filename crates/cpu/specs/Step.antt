@@ -1,5 +1,5 @@
 -- One step: the first of entry, idle, skip and execution that fits; then its states pass.
-use Rattle.std.specs.Prelude.{ℕ, ◌≤◌, false, cond, Some, None, Ok, Err, Option, Result}
+use Rattle.std.specs.Prelude.{◌≡◌, ℕ, ◌≤◌, false, cond, Some, None, Ok, Err, Option, Result}
 use Rattle.registers.specs.declared.bench.Core.{Core}
 use Rattle.registers.specs.Psw.{psw}
 use Rattle.lines.specs.declared.level.Level.{Level}
@@ -8,12 +8,17 @@ use Rattle.lines.specs.Numbers.{number_of}
 use Rattle.lines.specs.Levels.{vector_of, entered_by}
 use Rattle.requests.specs.Request.{Request, entering}
 use Rattle.requests.specs.All.{at_line, signalled_all}
+use Rattle.board.specs.declared.Board.{Ghosts as BoardGhosts}
+use Rattle.panel.specs.declared.Panel.{Ghosts as PanelGhosts}
 use Rattle.panel.specs.Rules.{Rules, states_of, passed, rose}
 use Rattle.isa.specs.Costs.{cost_of}
 use Rattle.isa.specs.Decoding.{Decoded}
 use Rattle.machine.specs.Words.{past, back}
 use Rattle.machine.specs.Registers.{with_pc, with_sp, with_flags, with_skip, plain}
+use Rattle.machine.specs.declared.parts.Machine.{Machine}
 use Rattle.machine.specs.Model.{Model, on_core}
+use Rattle.machine.specs.Of.{model_of}
+use Rattle.machine.specs.Effects.{Runs}
 use Rattle.machine.specs.Control.{status_pushed}
 use Rattle.machine.specs.Instructions.{executed}
 use Rattle.cpu.specs.declared.codes.UndefinedCode.{UndefinedCode}
@@ -122,6 +127,10 @@ module _ {S : Type 0} (rules : Rules S) where
   after (counts n made) m = elapsed n made
   after (stops code) m = m
 
+  -- a whole step
+  abbrev pub stepped : Model S → Model S
+  stepped m = after (outcome m) m
+
 module _ {S : Type 0} where
   -- the same before its states pass
   abbrev pub acted : Outcome S → Model S → Model S
@@ -137,3 +146,9 @@ module _ {S : Type 0} where
 abbrev pub Counted : Result ℕ UndefinedCode → Type 0
 Counted (Ok n) = (4 ≤ n) × (n ≤ 59)
 Counted (Err code) = Unit {0}
+
+-- a machine comes to an outcome, before its states pass, and answers what the outcome says
+pub record ComesTo {B P : Type 0} (board : BoardGhosts B) (panel : PanelGhosts P) (makes : Model panel.Standing → Outcome panel.Standing) (result : Result ℕ UndefinedCode) (old new : Machine B P) : Type 0 where
+  pub becomes : Runs board panel (λ m. acted (makes m) m) old new
+  pub answer : result ≡ answer (makes (model_of board panel old))
+  pub counted : Counted result

@@ -1,6 +1,6 @@
 // The entry of an interrupt.
 ghost use Rattle.std.specs.Prelude.{◌≡◌};
-ghost use Rattle.machine.specs.Of.{model_of};
+ghost use Rattle.machine.specs.Effects.{Runs};
 ghost use Rattle.requests.specs.Of.{requests_of};
 ghost use Rattle.cpu.specs.Step.{entered as entry_of, vectored, cleared_by};
 
@@ -15,14 +15,13 @@ use requests::Requests;
 
 /// Enters a level: PSW and PC go to the stack, and PC becomes its vector.
 pub(crate) fn enter<B: Board, P: Panel>(machine: &mut Machine<B, P>, level: Level)
-    ensures after { model_of B.Board.cells P.Panel.standing machine.new ≡ entry_of level (model_of B.Board.cells P.Panel.standing machine.old) }
-    ensures keeps { B.Board.rest machine.new.board ≡ B.Board.rest machine.old.board }
+    ensures { Runs B.Board P.Panel (entry_of level) machine.old machine.new }
 {
     let registers = machine.core.registers;
     push_status(
         &mut machine.board,
         registers.sp,
-        registers.flags.byte(),
+        u8::from(registers.flags),
         registers.pc,
     );
     clear_mark(&mut machine.requests, level, masks(&machine.core));

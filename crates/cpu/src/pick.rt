@@ -8,7 +8,7 @@ use registers::bench::Core;
 use requests::Requests;
 
 /// What a core goes on with if no interrupt is entered.
-#[derive(Clone, Copy)]
+#[derive(Clone, Copy, PartialEq, Eq, Debug)]
 pub(crate) enum Mode {
     Running,
     Halted,
@@ -26,7 +26,7 @@ pub(crate) fn masks(core: &Core) -> u16
 pub(crate) fn pick(core: &Core, requests: &Requests) -> Option<Level>
     ensures { result ≡ picked core.now (requests_of requests.now) }
 {
-    requests.marks().unmasked(masks(core)).highest()
+    requests.marks().unmasked(masks(core)).level()
 }
 
 /// A pick ends a halt.

@@ -1,10 +1,11 @@
 // What a step does, and how its states pass.
-ghost use Rattle.std.specs.Prelude.{◌≡◌, ◌≤◌, Ok, Err};
+ghost use Rattle.std.specs.Prelude.{◌≡◌};
 ghost use Rattle.machine.specs.Of.{model_of};
+ghost use Rattle.machine.specs.Effects.{Runs};
 ghost use Rattle.cpu.specs.Codes.{code_here};
-ghost use Rattle.cpu.specs.Step.{idled, passed_over, skipping, executing, outcome, answer, acted, elapsed, after as after_step, Counted};
+ghost use Rattle.cpu.specs.Step.{idled, passed_over, skipping, executing, outcome, answer, elapsed, stepped, Counted, ComesTo};
 
-use crate::codes::{UndefinedCode, fetch, undefined_code};
+use crate::codes::{UndefinedCode, fetch};
 use crate::entry::enter;
 use crate::pick::{Mode, is_open, mode_with, pick};
 use board::Board;
@@ -21,10 +22,9 @@ const IDLE_STATES: u8 = 4;
 
 /// Makes one step and answers the states that it counted. An undefined code makes no step and changes nothing.
 pub fn step<B: Board, P: Panel>(machine: &mut Machine<B, P>) -> Result<u8, UndefinedCode>
-    ensures after { model_of B.Board.cells P.Panel.standing machine.new ≡ after_step P.Panel.rules (outcome P.Panel.rules (model_of B.Board.cells P.Panel.standing machine.old)) (model_of B.Board.cells P.Panel.standing machine.old) }
-    ensures answer { result ≡ answer (outcome P.Panel.rules (model_of B.Board.cells P.Panel.standing machine.old)) }
+    ensures becomes { Runs B.Board P.Panel (stepped P.Panel.rules) machine.old machine.new }
+    ensures answer { result ≡ answer (outcome P.Panel.rules (model_of B.Board P.Panel machine.old)) }
     ensures counted { Counted result }
-    ensures keeps { B.Board.rest machine.new.board ≡ B.Board.rest machine.old.board }
 {
     let states = act(machine)?;
     elapse(machine, states);
@@ -33,8 +33,7 @@ pub fn step<B: Board, P: Panel>(machine: &mut Machine<B, P>) -> Result<u8, Undef
 
 // States pass on the panel, and the lines that rise in them are signalled.
 fn elapse<B: Board, P: Panel>(machine: &mut Machine<B, P>, states: u8)
-    ensures after { model_of B.Board.cells P.Panel.standing machine.new ≡ elapsed P.Panel.rules states (model_of B.Board.cells P.Panel.standing machine.old) }
-    ensures keeps { B.Board.rest machine.new.board ≡ B.Board.rest machine.old.board }
+    ensures { Runs B.Board P.Panel (elapsed P.Panel.rules states) machine.old machine.new }
 {
     let lines = machine.panel.pass(u32::from(states));
     machine.requests.signal_all(lines);
@@ -42,10 +41,7 @@ fn elapse<B: Board, P: Panel>(machine: &mut Machine<B, P>, states: u8)
 
 // The step without the passing of its states.
 fn act<B: Board, P: Panel>(machine: &mut Machine<B, P>) -> Result<u8, UndefinedCode>
-    ensures after { model_of B.Board.cells P.Panel.standing machine.new ≡ acted (outcome P.Panel.rules (model_of B.Board.cells P.Panel.standing machine.old)) (model_of B.Board.cells P.Panel.standing machine.old) }
-    ensures answer { result ≡ answer (outcome P.Panel.rules (model_of B.Board.cells P.Panel.standing machine.old)) }
-    ensures counted { Counted result }
-    ensures keeps { B.Board.rest machine.new.board ≡ B.Board.rest machine.old.board }
+    ensures { ComesTo B.Board P.Panel (outcome P.Panel.rules) result machine.old machine.new }
 {
     let pick = pick(&machine.core, &machine.requests);
     match (mode_with(&machine.core, pick), pick) {
@@ -64,36 +60,20 @@ fn act<B: Board, P: Panel>(machine: &mut Machine<B, P>) -> Result<u8, UndefinedC
 
 // The code at PC, executed.
 fn run<B: Board, P: Panel>(machine: &mut Machine<B, P>) -> Result<u8, UndefinedCode>
-    ensures after { model_of B.Board.cells P.Panel.standing machine.new ≡ acted (executing P.Panel.rules (code_here (model_of B.Board.cells P.Panel.standing machine.old)) (model_of B.Board.cells P.Panel.standing machine.old)) (model_of B.Board.cells P.Panel.standing machine.old) }
-    ensures answer { result ≡ answer (executing P.Panel.rules (code_here (model_of B.Board.cells P.Panel.standing machine.old)) (model_of B.Board.cells P.Panel.standing machine.old)) }
-    ensures counted { Counted result }
-    ensures keeps { B.Board.rest machine.new.board ≡ B.Board.rest machine.old.board }
+    ensures { ComesTo B.Board P.Panel (λ m. executing P.Panel.rules (code_here m) m) result machine.old machine.new }
 {
-    let pc = machine.core.registers.pc;
-    match fetch(&machine.board, pc) {
-        Ok(instruction) => {
-            execute(machine, instruction);
-            Ok(instruction.states())
-        }
-        Err(decided) => Err(undefined_code(&machine.board, pc, decided)),
-    }
+    let instruction = fetch(&machine.board, machine.core.registers.pc)?;
+    execute(machine, instruction);
+    Ok(instruction.states())
 }
 
 // The code at PC, passed over.
 fn skip<B: Board, P: Panel>(machine: &mut Machine<B, P>) -> Result<u8, UndefinedCode>
-    ensures after { model_of B.Board.cells P.Panel.standing machine.new ≡ acted (skipping (code_here (model_of B.Board.cells P.Panel.standing machine.old)) (model_of B.Board.cells P.Panel.standing machine.old)) (model_of B.Board.cells P.Panel.standing machine.old) }
-    ensures answer { result ≡ answer (skipping (code_here (model_of B.Board.cells P.Panel.standing machine.old)) (model_of B.Board.cells P.Panel.standing machine.old)) }
-    ensures counted { Counted result }
-    ensures keeps { B.Board.rest machine.new.board ≡ B.Board.rest machine.old.board }
+    ensures { ComesTo B.Board P.Panel (λ m. skipping (code_here m) m) result machine.old machine.new }
 {
-    let pc = machine.core.registers.pc;
-    match fetch(&machine.board, pc) {
-        Ok(instruction) => {
-            pass_over(&mut machine.core, instruction.length());
-            Ok(instruction.skipped())
-        }
-        Err(decided) => Err(undefined_code(&machine.board, pc, decided)),
-    }
+    let instruction = fetch(&machine.board, machine.core.registers.pc)?;
+    pass_over(&mut machine.core, instruction.length());
+    Ok(instruction.skipped())
 }
 
 fn pass_over(core: &mut Core, length: u8)

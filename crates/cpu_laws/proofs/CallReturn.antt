@@ -1,19 +1,17 @@
 -- RET behind a call goes on behind it, of any machine whose stack pointer has 16 bits.
-use Rattle.std.proofs.Common.{◌≡◌, ℕ, ◌<◌, true, false, arith}
+use Rattle.std.proofs.Common.{◌≡◌, ℕ, ◌<◌, arith}
 use Rattle.panel.specs.Rules.{Rules}
 use Rattle.isa.specs.Costs.{cost_of}
-use Rattle.machine.specs.declared.families.Jump.{Jump}
-use Rattle.machine.specs.declared.families.Jump.TheVariants.{Jmp, Jb, Jr, JreForward, JreBackward, Jea, Call, Calb, Calf, Calt, Softi, Ret, Rets, Reti}
+use Rattle.isa.specs.declared.instructions.Instruction.TheVariants as family
+use Rattle.isa.specs.declared.instructions.Jump.{Jump}
+use Rattle.isa.specs.declared.instructions.Jump.TheVariants.{Jmp, Jb, Jr, JreForward, JreBackward, Jea, Call, Calb, Calf, Calt, Softi, Ret, Rets, Reti}
 use Rattle.machine.specs.Words.{past, back, word_at, pushed}
 use Rattle.machine.specs.Registers.{with_pc, with_sp}
 use Rattle.machine.specs.Model.{Model}
 use Rattle.cpu_laws.specs.Widths.{Fitting}
-use Rattle.cpu_laws.specs.Runs.{jump_instruction, called_and_returned}
+use Rattle.cpu_laws.specs.Runs.{called_and_returned}
 use Rattle.cpu_laws.specs.Laws.{gone_on, Open, CallReturns}
 use Rattle.cpu_laws.proofs.Stack.{pushed_word}
-
-not_so : {X : Type 0} → false ≡ true → X
-not_so e = let z : ◌≡◌ {A = ℕ} 0 1 = cc in absurd (omega arith)
 
 -- the registers behind a call of n bytes, once PC and SP are read back
 returned_from : {S : Type 0} (n : ℕ) (m : Model S) → m.core.registers.sp < 65536 → Open 1 m → Open 2 m
@@ -27,17 +25,17 @@ returned_from n m fits first second =
 
 pub call_returns : {S : Type 0} (rules : Rules S) (call : Jump) (m : Model S) → Fitting m.core.registers
     → CallReturns call m (called_and_returned rules call m)
-call_returns rules Jmp m fits is first second = not_so is
-call_returns rules Jb m fits is first second = not_so is
-call_returns rules (Jr n) m fits is first second = not_so is
-call_returns rules JreForward m fits is first second = not_so is
-call_returns rules JreBackward m fits is first second = not_so is
-call_returns rules Jea m fits is first second = not_so is
-call_returns rules Call m fits is first second = returned_from (cost_of (jump_instruction Call)).bytes m fits.sp first second
-call_returns rules Calb m fits is first second = returned_from (cost_of (jump_instruction Calb)).bytes m fits.sp first second
-call_returns rules (Calf n) m fits is first second = returned_from (cost_of (jump_instruction (Calf n))).bytes m fits.sp first second
-call_returns rules (Calt n) m fits is first second = returned_from (cost_of (jump_instruction (Calt n))).bytes m fits.sp first second
-call_returns rules Softi m fits is first second = not_so is
-call_returns rules Ret m fits is first second = not_so is
-call_returns rules Rets m fits is first second = not_so is
-call_returns rules Reti m fits is first second = not_so is
+call_returns rules Jmp m fits is first second = cc
+call_returns rules Jb m fits is first second = cc
+call_returns rules (Jr n) m fits is first second = cc
+call_returns rules JreForward m fits is first second = cc
+call_returns rules JreBackward m fits is first second = cc
+call_returns rules Jea m fits is first second = cc
+call_returns rules Call m fits is first second = returned_from (cost_of (family.Jump Call)).bytes m fits.sp first second
+call_returns rules Calb m fits is first second = returned_from (cost_of (family.Jump Calb)).bytes m fits.sp first second
+call_returns rules (Calf n) m fits is first second = returned_from (cost_of (family.Jump (Calf n))).bytes m fits.sp first second
+call_returns rules (Calt n) m fits is first second = returned_from (cost_of (family.Jump (Calt n))).bytes m fits.sp first second
+call_returns rules Softi m fits is first second = cc
+call_returns rules Ret m fits is first second = cc
+call_returns rules Rets m fits is first second = cc
+call_returns rules Reti m fits is first second = cc

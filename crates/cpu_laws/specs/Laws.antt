@@ -5,12 +5,12 @@ use Rattle.lines.specs.declared.level.Level.{Level}
 use Rattle.panel.specs.Rules.{Rules}
 use Rattle.isa.specs.Costs.{cost_of}
 use Rattle.isa.specs.declared.instructions.Instruction.{Instruction}
-use Rattle.machine.specs.declared.families.Jump.{Jump}
-use Rattle.machine.specs.declared.families.Jump.TheVariants.{Jmp, Jb, Jr, JreForward, JreBackward, Jea, Call, Calb, Calf, Calt, Softi, Ret, Rets, Reti}
+use Rattle.isa.specs.declared.instructions.Instruction.TheVariants as family
+use Rattle.isa.specs.declared.instructions.Jump.{Jump}
+use Rattle.isa.specs.declared.instructions.Jump.TheVariants.{Jmp, Jb, Jr, JreForward, JreBackward, Jea, Call, Calb, Calf, Calt, Softi, Ret, Rets, Reti}
 use Rattle.machine.specs.Words.{past, back}
 use Rattle.machine.specs.Registers.{with_pc, with_flags, with_skip, plain}
 use Rattle.machine.specs.Model.{Model}
-use Rattle.cpu_laws.specs.Runs.{jump_instruction}
 use Rattle.cpu.specs.Codes.{code_here}
 use Rattle.cpu.specs.Picking.{picked}
 use Rattle.cpu.specs.Step.{Choice, entry, skip, choice, elapsed}
@@ -45,7 +45,7 @@ module _ {S : Type 0} where
   abbrev pub CallReturns : Jump → Model S → Model S → Type 0
   CallReturns call m e =
       is_call call ≡ true → Open 1 m → Open 2 m
-      → e.core.registers ≡ gone_on (cost_of (jump_instruction call)).bytes m.core.registers
+      → e.core.registers ≡ gone_on (cost_of (family.Jump call)).bytes m.core.registers
 
   -- POP behind PUSH of the same pair into open cells: PC is two bytes further, SK, L1 and L0 are clear, and the pair, SP and all other registers are as they were
   abbrev pub PopRestores : Model S → Model S → Type 0

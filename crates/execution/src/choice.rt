@@ -1,6 +1,6 @@
 // The execution of an instruction, by its family.
 ghost use Rattle.std.specs.Prelude.{◌≡◌};
-ghost use Rattle.machine.specs.Of.{model_of};
+ghost use Rattle.machine.specs.Effects.{Runs};
 ghost use Rattle.machine.specs.Model.{begun};
 ghost use Rattle.machine.specs.Instructions.{performed, executed};
 
@@ -10,7 +10,7 @@ use arithmetic::compute;
 use board::Board;
 use isa::Instruction;
 use jumps::direct;
-use machine::{Family, Machine, classify};
+use machine::Machine;
 use panel::Panel;
 use registers::bench::Core;
 use registers::flags::Flags;
@@ -18,12 +18,11 @@ use transfers::transfer;
 
 /// Executes an instruction: PC moves past it, SK, L1 and L0 are cleared, and its operation is done.
 pub fn execute<B: Board, P: Panel>(machine: &mut Machine<B, P>, instruction: Instruction)
-    ensures after { model_of B.Board.cells P.Panel.standing machine.new ≡ executed P.Panel.rules instruction (model_of B.Board.cells P.Panel.standing machine.old) }
-    ensures keeps { B.Board.rest machine.new.board ≡ B.Board.rest machine.old.board }
+    ensures { Runs B.Board P.Panel (executed P.Panel.rules instruction) machine.old machine.new }
 {
     let before = machine.core.registers.flags;
     begin(&mut machine.core, instruction.length());
-    perform(machine, classify(instruction), before);
+    perform(machine, instruction, before);
 }
 
 fn begin(core: &mut Core, length: u8)
@@ -37,20 +36,19 @@ fn begin(core: &mut Core, length: u8)
     core.after_ei = false;
 }
 
-fn perform<B: Board, P: Panel>(machine: &mut Machine<B, P>, family: Family, before: Flags)
-    ensures after { model_of B.Board.cells P.Panel.standing machine.new ≡ performed P.Panel.rules before family (model_of B.Board.cells P.Panel.standing machine.old) }
-    ensures keeps { B.Board.rest machine.new.board ≡ B.Board.rest machine.old.board }
+fn perform<B: Board, P: Panel>(machine: &mut Machine<B, P>, instruction: Instruction, before: Flags)
+    ensures { Runs B.Board P.Panel (performed P.Panel.rules before instruction) machine.old machine.new }
 {
-    match family {
-        Family::Transfer(i) => transfer(&mut machine.core.registers, &mut machine.board, i, before),
-        Family::Arithmetic(i) => compute(&mut machine.core.registers, &mut machine.board, i),
-        Family::Jump(i) => direct(&mut machine.core.registers, &mut machine.board, i, before),
-        Family::Special(i) => handle_special(
-            &mut machine.core,
-            &machine.board,
-            &mut machine.panel,
+    match instruction {
+        Instruction::Transfer(i) => transfer(
+            &mut machine.core.registers,
+            &mut machine.board,
             i,
+            before,
         ),
-        Family::Control(i) => control(machine, i),
+        Instruction::Arithmetic(i) => compute(&mut machine.core.registers, &mut machine.board, i),
+        Instruction::Jump(i) => direct(&mut machine.core.registers, &mut machine.board, i, before),
+        Instruction::Special(i) => handle_special(machine, i),
+        Instruction::Control(i) => control(machine, i),
     }
 }

@@ -1,13 +1,15 @@
 // Tests that skip, and the modes of the core.
-ghost use Rattle.std.specs.Prelude.{not, ◌≡◌};
-ghost use Rattle.machine.specs.Control.{bit_tested, flag_in, skipped_on, skipped_off, line_tested, enabled as ei_executed};
+ghost use Rattle.std.specs.Prelude.{◌≡◌};
+ghost use Rattle.machine.specs.Registers.{with_skip};
+ghost use Rattle.machine.specs.Control.{bit_tested, flag_in, line_tested, enabled as ei_executed};
 ghost use Rattle.machine.specs.Instructions.{controlled};
-ghost use Rattle.machine.specs.Of.{model_of};
+ghost use Rattle.machine.specs.Effects.{Runs};
+ghost use Rattle.execution.specs.Wanted.{as_wanted};
 
 use board::Board;
-use isa::Flag;
+use isa::{Control, Flag};
 use lines::Line;
-use machine::{Control, Machine};
+use machine::Machine;
 use operands::{data_byte, working_address};
 use panel::Panel;
 use registers::bench::Core;
@@ -33,36 +35,19 @@ fn is_set(flags: Flags, flag: Flag) -> bool
     }
 }
 
-/// SK f.
-fn skip_if_set(registers: &mut Registers, flag: Flag)
-    ensures { registers.new ≡ skipped_on flag registers.old }
+/// SK f and SKN f.
+fn skip_if_flag(registers: &mut Registers, flag: Flag, wanted: bool)
+    ensures { registers.new ≡ with_skip (as_wanted wanted (flag_in flag registers.old.flags)) registers.old }
 {
-    registers.flags.skip = is_set(registers.flags, flag);
+    registers.flags.skip = is_set(registers.flags, flag) == wanted;
 }
 
-/// SKN f.
-fn skip_if_clear(registers: &mut Registers, flag: Flag)
-    ensures { registers.new ≡ skipped_off flag registers.old }
-{
-    registers.flags.skip = !is_set(registers.flags, flag);
-}
-
-/// SKIT irf.
-fn skip_if_waiting<B: Board, P: Panel>(machine: &mut Machine<B, P>, line: Line)
-    ensures after { model_of B.Board.cells P.Panel.standing machine.new ≡ line_tested (λ waits. waits) line (model_of B.Board.cells P.Panel.standing machine.old) }
-    ensures keeps { B.Board.rest machine.new.board ≡ B.Board.rest machine.old.board }
-{
-    let waited = machine.requests.test(line);
-    machine.core.registers.flags.skip = waited;
-}
-
-/// SKNIT irf.
-fn skip_unless_waiting<B: Board, P: Panel>(machine: &mut Machine<B, P>, line: Line)
-    ensures after { model_of B.Board.cells P.Panel.standing machine.new ≡ line_tested not line (model_of B.Board.cells P.Panel.standing machine.old) }
-    ensures keeps { B.Board.rest machine.new.board ≡ B.Board.rest machine.old.board }
+/// SKIT irf and SKNIT irf.
+fn skip_if_waiting<B: Board, P: Panel>(machine: &mut Machine<B, P>, line: Line, wanted: bool)
+    ensures { Runs B.Board P.Panel (line_tested (as_wanted wanted) line) machine.old machine.new }
 {
     let waits = machine.requests.test(line);
-    machine.core.registers.flags.skip = !waits;
+    machine.core.registers.flags.skip = waits == wanted;
 }
 
 /// EI.
@@ -74,15 +59,14 @@ fn enable(core: &mut Core)
 }
 
 pub(crate) fn control<B: Board, P: Panel>(machine: &mut Machine<B, P>, instruction: Control)
-    ensures after { model_of B.Board.cells P.Panel.standing machine.new ≡ controlled instruction (model_of B.Board.cells P.Panel.standing machine.old) }
-    ensures keeps { B.Board.rest machine.new.board ≡ B.Board.rest machine.old.board }
+    ensures { Runs B.Board P.Panel (controlled instruction) machine.old machine.new }
 {
     match instruction {
         Control::Bit(bit) => test_bit(&mut machine.core.registers, &machine.board, bit),
-        Control::Sk(flag) => skip_if_set(&mut machine.core.registers, flag),
-        Control::Skn(flag) => skip_if_clear(&mut machine.core.registers, flag),
-        Control::Skit(line) => skip_if_waiting(machine, line),
-        Control::Sknit(line) => skip_unless_waiting(machine, line),
+        Control::Sk(flag) => skip_if_flag(&mut machine.core.registers, flag, true),
+        Control::Skn(flag) => skip_if_flag(&mut machine.core.registers, flag, false),
+        Control::Skit(line) => skip_if_waiting(machine, line, true),
+        Control::Sknit(line) => skip_if_waiting(machine, line, false),
         Control::Nop => {}
         Control::Ei => enable(&mut machine.core),
         Control::Di => machine.core.interrupts = false,

@@ -20,5 +20,9 @@ pub record Acts {B : Type 0} (board : Ghosts B) (operation : Reach → Reach) (o
 
 -- a change is made of what a machine means
 pub record Runs {B P : Type 0} (board : Ghosts B) (panel : PanelGhosts P) (change : Model panel.Standing → Model panel.Standing) (old new : Machine B P) : Type 0 where
-  pub after : model_of board.cells panel.standing new ≡ change (model_of board.cells panel.standing old)
+  pub after : model_of board panel new ≡ change (model_of board panel old)
   pub keeps : board.rest new.board ≡ board.rest old.board
+
+-- what a law says of a machine before and after, by what it means
+abbrev pub Between : {B P : Type 0} (board : Ghosts B) (panel : PanelGhosts P) → (Model panel.Standing → Model panel.Standing → Type 0) → Machine B P → Machine B P → Type 0
+Between board panel law old new = law (model_of board panel old) (model_of board panel new)

@@ -77,3 +77,7 @@ module _ {S : Type 0} where
 
   abbrev pub on_ports : (Ports S → Ports S) → Model S → Model S
   on_ports f m = with_ports (f (ports m.core m.standing)) m
+
+  -- the same, where memory is read too
+  abbrev pub on_ports_reading : (Cells → Ports S → Ports S) → Model S → Model S
+  on_ports_reading f m = on_ports (f m.cells) m

@@ -20,7 +20,7 @@ pub struct Machine<B, P> {
 impl<B: Board, P: Panel> Machine<B, P> {
     /// A machine with no line waiting and nothing counted.
     pub fn new(core: Core, board: B, panel: P) -> Machine<B, P>
-        ensures model { model_of B.Board.cells P.Panel.standing result ≡ started_with core (B.Board.cells board) (P.Panel.standing panel) }
+        ensures model { model_of B.Board P.Panel result ≡ started_with core (B.Board.cells board) (P.Panel.standing panel) }
         ensures rest { B.Board.rest result.board ≡ B.Board.rest board }
     {
         Machine {

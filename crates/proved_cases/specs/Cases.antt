@@ -8,7 +8,7 @@ use Rattle.panel.specs.Rules.{Rules}
 use Rattle.machine.specs.Registers.{with_a, with_pc, with_sp}
 use Rattle.machine.specs.Model.{Model, core_with}
 use Rattle.cpu.specs.declared.codes.UndefinedCode.{UndefinedCode}
-use Rattle.cpu.specs.Step.{outcome, answer, after}
+use Rattle.cpu.specs.Step.{outcome, answer, stepped}
 
 -- bytes from an address on, zeros elsewhere, nothing fixed
 abbrev pub bytes_at : ℕ → List ℕ → Cells
@@ -34,7 +34,7 @@ module _ {S : Type 0} (rules : Rules S) (standing : S) where
   at_program address a program = machine_with (core_at a address 0) (bytes_at address program) no_line
 
   abbrev pub next : Model S → Model S
-  next m = after rules (outcome rules m) m
+  next m = stepped rules m
 
   abbrev pub answered : Model S → Result ℕ UndefinedCode
   answered m = answer (outcome rules m)

@@ -17,10 +17,8 @@ type Bench = Machine<FlatBoard, BenchPanel>;
 // A machine with a program at an address, PC there and A set.
 fn bench(heap: Global, address: u16, a: u8, program: &[u8]) -> Result<Bench, Fail> {
     let mut board = FlatBoard::new(vec![in heap; 0u8; 65536]?, 0);
-    let mut at = address;
-    for byte in program {
+    for (at, byte) in (address..=u16::MAX).zip(program) {
         board.write(at, *byte);
-        at = at.wrapping_add(1);
     }
     let mut core = Core::new();
     core.registers.pc = address;

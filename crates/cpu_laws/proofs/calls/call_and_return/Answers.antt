@@ -1,23 +1,11 @@
-use Rattle.std.proofs.Common.{◌≡◌, sym, ap, ◌∙◌, subst}
-use Rattle.isa.specs.declared.instructions.Instruction.TheVariants.{Ret}
 use Rattle.machine.specs.Of.{model_of}
-use Rattle.machine.specs.Model.{Model}
-use Rattle.machine.specs.Instructions.{executed}
-use Rattle.cpu_laws.specs.Runs.{called_and_returned}
+use Rattle.machine.proofs.Effects.{then, between}
 use Rattle.cpu_laws.specs.Laws.{CallReturns}
 use Rattle.cpu_laws.proofs.CallReturn.{call_returns}
 use Rattle.cpu_laws.proofs.calls.call_and_return.Goals as goal
 
-pub returns : goal.returns
-returns g c =
-    let S = g.P.Panel.Standing in
-    let rules = g.P.Panel.rules in
-    let call = c.args.call in
-    let m = model_of g.B.Board.cells g.P.Panel.standing c.args.machine.now in
-    let e = model_of g.B.Board.cells g.P.Panel.standing c.execute-2.new.machine in
-    let done : e ≡ called_and_returned rules call m = c.execute-2.ensures.after ∙ ap (executed rules Ret) (c.execute.ensures.after ∙ ap (λ i. executed rules i m) c.instruction.ensures.value) in
-    record {
-      after = done;
-      returns = subst (λ (x : Model S). CallReturns call m x) (sym done) (call_returns rules call m c.measure.ensures);
-      keeps = c.execute-2.ensures.keeps ∙ c.execute.ensures.keeps;
-    }
+pub returns-clause-returns : goal.returns-clause-returns
+returns-clause-returns g c =
+    let run = then g.B.Board g.P.Panel c.execute.ensures c.execute-2.ensures in
+    let m = model_of g.B.Board g.P.Panel c.args.machine.now in
+    between g.B.Board g.P.Panel (CallReturns c.args.call) run (call_returns g.P.Panel.rules c.args.call m c.measure.ensures)

@@ -1,19 +1,10 @@
-use Rattle.std.proofs.Common.{sym, subst}
 use Rattle.machine.specs.Of.{model_of}
-use Rattle.machine.specs.Model.{Model}
+use Rattle.machine.proofs.Effects.{between}
 use Rattle.cpu_laws.specs.Laws.{SkipPasses}
 use Rattle.cpu_laws.proofs.SkipPass.{skip_passes}
 use Rattle.cpu_laws.proofs.skips.step_over.Goals as goal
 
-pub returns : goal.returns
-returns g c =
-    let S = g.P.Panel.Standing in
-    let rules = g.P.Panel.rules in
-    let m = model_of g.B.Board.cells g.P.Panel.standing c.args.machine.now in
-    let known = c.step.ensures in
-    record {
-      after = known.after;
-      answer = known.answer;
-      skips = subst (λ (x : Model S). SkipPasses rules m x) (sym known.after) (skip_passes rules m);
-      keeps = known.keeps;
-    }
+pub returns-clause-skips : goal.returns-clause-skips
+returns-clause-skips g c =
+    let m = model_of g.B.Board g.P.Panel c.args.machine.now in
+    between g.B.Board g.P.Panel (SkipPasses g.P.Panel.rules) c.step.ensures.becomes (skip_passes g.P.Panel.rules m)
