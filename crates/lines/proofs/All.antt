@@ -1,5 +1,5 @@
 -- The place of each line among all of them. Assumes nothing.
-use Rattle.std.proofs.Common.{◌≡◌, ℕ, ◌<◌, get_or, length, refl, below_none, below_more}
+use Rattle.std.proofs.Common.{◌≡◌, ℕ, ◌<◌, get_or, refl, below_none, below_more}
 use Rattle.lines.specs.declared.line.TheConstants.Line.{ALL}
 use Rattle.lines.specs.declared.line.Line.{Line}
 use Rattle.lines.specs.Numbers.{number_of}

@@ -1,131 +1,62 @@
 -- The bits of `|`, `&`, `^`, of a power of two, and the lowest and highest bit. Assumes nothing.
-use Rattle.std.proofs.Common.{◌≡◌, ℕ, zero, suc, ◌+◌, ◌*◌, ◌/◌, ◌%◌, ◌^◌, ◌<◌, ◌≤◌, Bool, true, false, cond, not, ◌&&◌, ◌||◌, eqb, ltb, Some, None, sym, refl, ap, ◌∙◌, inl, inr, lt_of_lt_of_le, pow-suc, arith, pow_mono, below_none, below_more}
+use Rattle.std.proofs.Common.{◌≡◌, ℕ, zero, suc, ◌+◌, ◌*◌, ◌/◌, ◌%◌, ◌^◌, ◌<◌, ◌≤◌, min, max, w16, Bool, true, false, cond, not, ◌&&◌, ◌||◌, eqb, ltb, Some, None, sym, refl, ap, ◌∙◌, inl, inr, arith, below_none, below_more}
 use mathlib.Core.Path.{fun_ext}
-use lib.Bits.{or_lt, xor_lt, and_le_l, bit_and, bit_or, bit_xor, and_shr, or_shr, xor_shr, and_mod, or_mod, xor_mod}
-use Rattle.std.proofs.lemmas.Nat.{shr-shr, one_shl, pow_below}
-use native.Mathlib.Nat.{zero-div, div-eq_of_lt}
-use Rattle.std.proofs.lemmas.Bool.{cases_eq, cases_lt, true≢false, eqb-false, eq-eqb, ne_eqb, lt-ltb}
+use lib.Bits.{or_lt, xor_lt, and_le_l, bit_and, bit_or, bit_xor}
+use lib.Count.{count_trailing_zeros}
+use Rattle.std.specs.Int.{bit_at}
+use Rattle.std.proofs.lemmas.Nat.{one_shl, pow_below}
+use Rattle.std.proofs.lemmas.Nat.Bits.{bit_at-suc, bit_at-zero, bit_at_and, bit_at_or, bit_at_xor, bit_at-pow_same, bit_at-pow_other, bit_at-trailing_zeros, bit_at-lt, same_from_bits, bit_at_above}
+use Rattle.std.proofs.lemmas.Bool.{cases_eq, cases_lt, eqb-false, eq-eqb, ne_eqb}
 use Rattle.std.proofs.lemmas.Bool.Decides.{nat_tests}
-use lib.Count.{under, count_trailing_zeros}
 use Rattle.lines.specs.declared.set.Lines.{Lines}
 use Rattle.lines.specs.Of.{lines_of}
 use Rattle.lines.specs.Sets.{bit, with_line, without, unmasked_by, level_of}
 
-or_small : (p q : ℕ) → p < 2 → q < 2 → eqb (bit_or p q) 1 ≡ (eqb p 1 || eqb q 1)
-or_small zero q h g = refl
-or_small (suc zero) zero h g = refl
-or_small (suc zero) (suc zero) h g = refl
-or_small (suc zero) (suc (suc q)) h g = absurd (omega arith)
-or_small (suc (suc p)) q h g = absurd (omega arith)
-
-and_small : (p q : ℕ) → p < 2 → q < 2 → eqb (bit_and p q) 1 ≡ (eqb p 1 && eqb q 1)
-and_small zero q h g = refl
-and_small (suc zero) zero h g = refl
-and_small (suc zero) (suc zero) h g = refl
-and_small (suc zero) (suc (suc q)) h g = absurd (omega arith)
-and_small (suc (suc p)) q h g = absurd (omega arith)
+or_small : (p q : ℕ) → p < 2 → q < 2 → eqb (max p q) 1 ≡ (eqb p 1 || eqb q 1)
+or_small p q h g = grind (arith, nat_tests)
 
 -- `a ^ (a & b)` takes b's bits out of a
-out_small : (p q : ℕ) → p < 2 → q < 2 → eqb (bit_xor p (bit_and p q)) 1 ≡ (eqb p 1 && not (eqb q 1))
-out_small zero q h g = refl
-out_small (suc zero) zero h g = refl
-out_small (suc zero) (suc zero) h g = refl
-out_small (suc zero) (suc (suc q)) h g = absurd (omega arith)
-out_small (suc (suc p)) q h g = absurd (omega arith)
+out_small : (p q : ℕ) → p < 2 → q < 2 → eqb ((p + min p q) % 2) 1 ≡ (eqb p 1 && not (eqb q 1))
+out_small p q h g = grind (arith, nat_tests)
 
 module _ (a b k : ℕ) where
   pub bit_of_or : bit (bit_or a b) k ≡ (bit a k || bit b k)
   unfolding bit
-  bit_of_or = ap (λ n. eqb (n % 2) 1) (or_shr a b k) ∙ ap (λ n. eqb n 1) (or_mod (a / 2 ^ k) (b / 2 ^ k) 1)
-      ∙ or_small (a / 2 ^ k % 2) (b / 2 ^ k % 2) (omega arith) (omega arith)
-
-  pub bit_of_and : bit (bit_and a b) k ≡ (bit a k && bit b k)
-  unfolding bit
-  bit_of_and = ap (λ n. eqb (n % 2) 1) (and_shr a b k) ∙ ap (λ n. eqb n 1) (and_mod (a / 2 ^ k) (b / 2 ^ k) 1)
-      ∙ and_small (a / 2 ^ k % 2) (b / 2 ^ k % 2) (omega arith) (omega arith)
+  bit_of_or = ap (λ d. eqb d 1) (bit_at_or a b k) ∙ or_small (bit_at a k) (bit_at b k) (bit_at-lt a k) (bit_at-lt b k)
 
   pub bit_out : bit (bit_xor a (bit_and a b)) k ≡ (bit a k && not (bit b k))
   unfolding bit
-  bit_out = ap (λ n. eqb (n % 2) 1) (xor_shr a (bit_and a b) k ∙ ap (bit_xor (a / 2 ^ k)) (and_shr a b k))
-      ∙ ap (λ n. eqb n 1) (xor_mod (a / 2 ^ k) (bit_and (a / 2 ^ k) (b / 2 ^ k)) 1 ∙ ap (bit_xor (a / 2 ^ k % 2)) (and_mod (a / 2 ^ k) (b / 2 ^ k) 1))
-      ∙ out_small (a / 2 ^ k % 2) (b / 2 ^ k % 2) (omega arith) (omega arith)
-
-pub bit_half : (a k : ℕ) → bit a (suc k) ≡ bit (a / 2) k
-unfolding bit
-bit_half a k = ap (λ n. eqb (n % 2) 1) (ap (λ m. a / 2 ^ m) (omega arith) ∙ sym (shr-shr a 1 k))
+  bit_out = ap (λ d. eqb d 1) (bit_at_xor a (bit_and a b) k ∙ ap (λ d. (bit_at a k + d) % 2) (bit_at_and a b k))
+      ∙ out_small (bit_at a k) (bit_at b k) (bit_at-lt a k) (bit_at-lt b k)
 
 pub bit_zero : (k : ℕ) → bit 0 k ≡ false
 unfolding bit
-bit_zero k = ap (λ n. eqb (n % 2) 1) (zero-div (2 ^ k))
+bit_zero k = ap (λ d. eqb d 1) (bit_at-zero k)
 
 -- nothing stands at or above a bound
 pub bit_high : (a n k : ℕ) → a < 2 ^ n → n ≤ k → bit a k ≡ false
 unfolding bit
-bit_high a n k h g = ap (λ m. eqb (m % 2) 1) (div-eq_of_lt (lt_of_lt_of_le h (pow_mono g)))
-
-same_suc : (k j : ℕ) → eqb k j ≡ eqb (suc k) (suc j)
-same_suc k j = grind (arith, nat_tests)
+bit_high a n k h g = ap (λ d. eqb d 1) (bit_at_above a n k h g)
 
 pub bit_power : (j k : ℕ) → bit (2 ^ j) k ≡ eqb k j
 unfolding bit
-bit_power zero zero = refl
-bit_power zero (suc k) = bit_half 1 k ∙ bit_zero k ∙ sym (ne_eqb (suc k) 0 (λ e. omega arith))
-bit_power (suc j) zero =
-    let even : 2 ^ suc j / 1 % 2 ≡ 0 = omega (arith, pow-suc 2 j) in
-    ap (λ n. eqb n 1) even ∙ sym (ne_eqb 0 (suc j) (λ e. omega arith))
-bit_power (suc j) (suc k) =
-    bit_half (2 ^ suc j) k ∙ ap (λ n. bit n k) (ap (λ n. n / 2) (pow-suc 2 j) ∙ omega arith) ∙ bit_power j k ∙ same_suc k j
+bit_power j k = elim (cases_eq k j) [
+  | inl e ↦ ap (λ i. eqb (bit_at (2 ^ j) i) 1) e ∙ ap (λ d. eqb d 1) (bit_at-pow_same j) ∙ sym (eq-eqb k j e)
+  | inr ne ↦ ap (λ d. eqb d 1) (bit_at-pow_other j k ne) ∙ sym (ne_eqb k j ne)
+]
 
 -- a number without bits is 0
-pub no_bits : (n a : ℕ) → a < 2 ^ n → ((k : ℕ) → bit a k ≡ false) → a ≡ 0
+pub no_bits : (a : ℕ) → ((k : ℕ) → bit a k ≡ false) → a ≡ 0
 unfolding bit
-no_bits zero a h none = omega arith
-no_bits (suc n) a h none =
-    let half : a / 2 ≡ 0 = no_bits n (a / 2) (omega (arith, pow-suc 2 n)) (λ k. sym (bit_half a k) ∙ none (suc k)) in
-    let low : a / 1 % 2 ≡ 1 → ⊥ = eqb-false (a / 1 % 2) 1 (none 0) in
-    omega arith
-
--- the lowest bit that is 1, and those below it
-pub lowest : (w a : ℕ) → a < 2 ^ w → 0 < a → bit a (count_trailing_zeros w a) ≡ true
-unfolding bit count_trailing_zeros
-lowest zero a h g = absurd (omega arith)
-lowest (suc w) a h g =
-    let t : ℕ = count_trailing_zeros w (a / 2) in
-    elim (cases_eq (a % 2) 0) [
-      | inl e ↦ ap (λ d. bit a (under d t)) e ∙ bit_half a t ∙ lowest w (a / 2) (omega (arith, pow-suc 2 w)) (omega arith)
-      | inr n ↦ let e : a % 2 ≡ 1 = omega arith in ap (λ d. bit a (under d t)) e ∙ eq-eqb (a / 1 % 2) 1 (omega arith)
-    ]
-
-even_below : (d t : ℕ) → 0 < under d t → d ≡ 0
-even_below zero t h = refl
-even_below (suc d) t h = absurd (omega arith)
-
-less_below : (d t k : ℕ) → suc k < under d t → k < t
-less_below zero t k h = omega arith
-less_below (suc d) t k h = absurd (omega arith)
-
-pub below_lowest : (w a k : ℕ) → k < count_trailing_zeros w a → bit a k ≡ false
-unfolding bit count_trailing_zeros
-below_lowest zero a k h = absurd (omega arith)
-below_lowest (suc w) a zero h =
-    let even : a % 2 ≡ 0 = even_below (a % 2) (count_trailing_zeros w (a / 2)) h in
-    ne_eqb (a / 1 % 2) 1 (λ e. omega arith)
-below_lowest (suc w) a (suc k) h = bit_half a k ∙ below_lowest w (a / 2) k (less_below (a % 2) (count_trailing_zeros w (a / 2)) k h)
-
-and_yes : (x t : Bool) → t ≡ true → x ≡ (x && t)
-and_yes true t e = sym e
-and_yes false t e = refl
+no_bits a none = same_from_bits a 0 (λ k. omega (arith, eqb-false (bit_at a k) 1 (none k), bit_at-lt a k, bit_at-zero k))
 
 -- what `x / 2 * 2` leaves
 bit_even : (m k : ℕ) → bit (m / 2 * 2) k ≡ (bit m k && ltb 0 k)
 unfolding bit
-bit_even m zero = let even : m / 2 * 2 / 1 % 2 ≡ 0 = omega arith in ap (λ n. eqb n 1) even ∙ none (eqb (m / 1 % 2) 1)
-  where
-    none : (x : Bool) → false ≡ (x && false)
-    none true = refl
-    none false = refl
+bit_even m zero = let even : bit_at (m / 2 * 2) 0 ≡ 0 = omega arith in grind (arith, nat_tests)
 bit_even m (suc k) =
-    bit_half (m / 2 * 2) k ∙ ap (λ n. bit n k) (omega arith) ∙ sym (bit_half m k) ∙ and_yes (bit m (suc k)) (ltb 0 (suc k)) (lt-ltb 0 (suc k) (omega arith))
+    let same : bit_at (m / 2 * 2) (suc k) ≡ bit_at m (suc k) = bit_at-suc (m / 2 * 2) k ∙ ap (λ n. bit_at n k) (omega arith) ∙ sym (bit_at-suc m k) in
+    grind (arith, nat_tests)
 
 -- a set whose lowest line is t
 abbrev from : (ℕ → Bool) → ℕ → ℕ → Bool
@@ -138,30 +69,37 @@ from_levels a =
     more 10 (more 9 (more 8 (more 7 (more 6 (more 5 (more 4 (more 3 (more 2 (more 1 (more 0 (below_none P) refl) refl) refl) refl) refl) refl) refl) refl) refl) refl) refl
 
 -- the lowest line of a set that has one
-lowest_line : (a : ℕ) → a < 2048 → 0 < a → count_trailing_zeros 16 a < 11
-lowest_line a h g =
-    let t : ℕ = count_trailing_zeros 16 a in
-    elim (cases_lt t 11) [ inl l ↦ l | inr l ↦ absurd (true≢false (sym (lowest 16 a (omega arith) g) ∙ bit_high a 11 t h l)) ]
+module _ (a : ℕ) (ok : a < 2048) where
+  abbrev t : ℕ
+  t = count_trailing_zeros 16 a
 
-pub no_level : (a : ℕ) → a < 2048 → 11 ≤ count_trailing_zeros 16 a → level_of (bit a) ≡ None
-no_level a h g =
-    let none : a ≡ 0 = elim (cases_lt 0 a) [ inl some ↦ absurd (omega (arith, lowest_line a h some)) | inr l ↦ omega arith ] in
-    ap (λ n. level_of (bit n)) none ∙ (λ i. level_of (λ k. bit_zero k i))
+  lowest : 0 < a → (t < 11) × (bit a t ≡ true) × ((k : ℕ) → k < t → bit a k ≡ false)
+  unfolding bit
+  lowest some =
+      let all = bit_at-trailing_zeros w16 a some (omega arith) in (
+        elim (cases_lt t 11) [ inl l ↦ l | inr l ↦ absurd (omega (arith, all.1, bit_at_above a 11 t ok l)) ],
+        ap (λ d. eqb d 1) all.1,
+        λ k h. ap (λ d. eqb d 1) (all.2 k h),
+      )
 
-pub levelled : (a n : ℕ) → a < 2048 → (count_trailing_zeros 16 a + 1) / 2 ≡ n → n < 6 → level_of (bit a) ≡ Some n
-unfolding count_trailing_zeros
-levelled a n h e small =
-    let t : ℕ = count_trailing_zeros 16 a in
-    let zero : count_trailing_zeros 16 0 ≡ 16 = refl in
-    let some : 0 < a = elim (cases_lt 0 a) [ inl l ↦ l | inr l ↦ absurd (let none : a ≡ 0 = omega arith in omega (arith, ap (count_trailing_zeros 16) none)) ] in
-    let there : bit a t ≡ true = lowest 16 a (omega arith) some in
-    ap level_of (fun_ext (λ k. starts (bit a) t there (λ j. below_lowest 16 a j) k)) ∙ from_levels (bit a) t (lowest_line a h some) ∙ ap Some e
-  where
-    starts : (b : ℕ → Bool) (t : ℕ) → b t ≡ true → ((j : ℕ) → j < t → b j ≡ false) → (k : ℕ) → b k ≡ from b t k
-    starts b t e low k =
-        let at : k ≡ t → b k ≡ true = λ same. ap b same ∙ e in
-        let under : k < t → b k ≡ false = low k in
-        grind (arith, nat_tests)
+  pub no_level : 11 ≤ t → level_of (bit a) ≡ None
+  no_level g =
+      let none : a ≡ 0 = elim (cases_lt 0 a) [ inl some ↦ absurd (omega (arith, (lowest some).0)) | inr l ↦ omega arith ] in
+      ap (λ n. level_of (bit n)) none ∙ (λ i. level_of (λ k. bit_zero k i))
+
+  pub levelled : (n : ℕ) → (t + 1) / 2 ≡ n → n < 6 → level_of (bit a) ≡ Some n
+  unfolding count_trailing_zeros
+  levelled n e small =
+      let zero : count_trailing_zeros 16 0 ≡ 16 = refl in
+      let some : 0 < a = elim (cases_lt 0 a) [ inl l ↦ l | inr l ↦ absurd (let none : a ≡ 0 = omega arith in omega (arith, ap (count_trailing_zeros 16) none)) ] in
+      let low = lowest some in
+      ap level_of (fun_ext (λ k. starts (bit a) t low.1 low.2 k)) ∙ from_levels (bit a) t low.0 ∙ ap Some e
+    where
+      starts : (b : ℕ → Bool) (t : ℕ) → b t ≡ true → ((j : ℕ) → j < t → b j ≡ false) → (k : ℕ) → b k ≡ from b t k
+      starts b t e low k =
+          let at : k ≡ t → b k ≡ true = λ same. ap b same ∙ e in
+          let under : k < t → b k ≡ false = low k in
+          grind (arith, nat_tests)
 
 module _ (a : ℕ) (ok : a < 2048) where
   pub out_lt : (b : ℕ) → bit_xor a (bit_and a b) < 2048

@@ -1,8 +1,6 @@
 // The six interrupt levels, the address that each is entered at, and the mark that an entry clears.
 ghost use Rattle.std.specs.Prelude.{◌≡◌, ◌<◌};
 ghost use Rattle.lines.specs.Levels.{level_at, level_number, vector_of, one_of, entered_by};
-ghost use Rattle.lines.specs.Numbers.{number_of};
-ghost use Rattle.lines.specs.Sets.{bit};
 
 use crate::line::Line;
 
@@ -23,19 +21,13 @@ pub enum Level {
     Serial,
 }
 
-fn is_masked(line: Line, masks: u16) -> bool
-    ensures { result ≡ bit masks (number_of line) }
-{
-    (masks >> line.number()) % 2 == 1
-}
-
 // The unmasked line of a pair, if the other is masked.
 fn one_of(first: Line, second: Line, masks: u16) -> Option<Line>
     ensures { result ≡ one_of first second masks }
 {
-    if is_masked(first, masks) {
+    if first.is_in(masks) {
         Some(second)
-    } else if is_masked(second, masks) {
+    } else if second.is_in(masks) {
         Some(first)
     } else {
         None

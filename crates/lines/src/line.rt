@@ -1,6 +1,7 @@
 // The eleven interrupt lines by the chip's names, and their numbers.
 ghost use Rattle.std.specs.Prelude.{◌≡◌, ◌<◌, Some};
 ghost use Rattle.lines.specs.Numbers.{number_of, line_at, IsLine};
+ghost use Rattle.lines.specs.Sets.{bit};
 
 use std::error::Error;
 use std::fmt;
@@ -47,6 +48,13 @@ impl Line {
         ensures back { line_at result ≡ Some self }
     {
         self as u8
+    }
+
+    // Whether the line's bit of a number is 1.
+    pub(crate) fn is_in(self, bits: u16) -> bool
+        ensures { result ≡ bit bits (number_of self) }
+    {
+        (bits >> self.number()) % 2 == 1
     }
 }
 

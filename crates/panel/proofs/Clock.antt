@@ -7,7 +7,8 @@ use Rattle.panel.specs.declared.schedule.Due.{Due}
 use Rattle.panel.specs.Rules.{passed, rose}
 use Rattle.panel.specs.Schedule.{scheduled}
 use Rattle.panel.specs.Bench.{Bench, bench_rules, last_number}
-use Rattle.panel.proofs.Records.{due_in, none_in, one_in}
+use Rattle.panel.specs.Places.{due_in}
+use Rattle.panel.proofs.Records.{none_in, one_in}
 
 pub zeroes : (n k : ℕ) → ◌≡◌ {A = ℕ} (get_or (replicate n 0) k 0) 0
 zeroes zero k = refl

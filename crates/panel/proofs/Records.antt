@@ -1,16 +1,14 @@
 -- Records in order of their numbers, and which of them are due. Assumes nothing.
-use Rattle.std.proofs.Common.{◌≡◌, ℕ, zero, suc, ◌+◌, ◌<◌, ◌≤◌, Bool, false, ◌&&◌, ◌||◌, eqb, ltb, leb, List, [], ◌∷◌, drop, refl, arith}
-use mathlib.Core.Path.{fun_ext}
+use Rattle.std.proofs.Common.{◌≡◌, ℕ, zero, suc, ◌+◌, ◌-◌, ◌<◌, ◌≤◌, Bool, false, cond, ◌&&◌, ◌||◌, ltb, leb, List, [], ◌∷◌, get_or, take, drop, sym, refl, ap, ◌∙◌, subst, inl, inr, arith}
+use Rattle.std.proofs.Math.Numerals.{one-add}
+use Rattle.std.specs.List.{prefix_len}
+use Rattle.std.proofs.lemmas.List.Sums.{prefix_len-le-length, prefix_len_passes, prefix_len_stops}
 use Rattle.std.proofs.lemmas.List.{length-drop, get_or-drop}
+use Rattle.std.proofs.lemmas.Bool.{cases_lt, lt-leb, le-leb, leb-true, leb-false}
 use Rattle.std.proofs.lemmas.Bool.Decides.{nat_tests}
 use Rattle.panel.specs.declared.schedule.Due.{Due}
-use Rattle.panel.specs.Places.{up_to, Gone, Coming}
+use Rattle.panel.specs.Places.{InOrder, Gone, Coming, lines_in, due_in, no_record}
 use Rattle.panel.specs.Schedule.{scheduled}
-
--- the lines of the records after one number and up to another
-abbrev pub due_in : List Due → ℕ → ℕ → ℕ → Bool
-due_in [] after until line = false
-due_in (d ∷ ds) after until line = ((ltb after d.at && leb d.at until) && (eqb d.line line && ltb line 11)) || due_in ds after until line
 
 pub none_in : (ds : List Due) (clock line : ℕ) → due_in ds clock clock line ≡ false
 none_in [] clock line = refl
@@ -21,33 +19,61 @@ pub one_in : (ds : List Due) (after until line : ℕ) → after ≤ until
 one_in [] after until line h = grind (arith, nat_tests)
 one_in (d ∷ ds) after until line h = let rest = one_in ds after until line h in grind (arith, nat_tests)
 
-none_due : (ds : List Due) (until line : ℕ) → Coming ds 0 until → up_to ds until line ≡ false
-none_due [] until line later = refl
-none_due (d ∷ ds) until line later =
+none_due : (ds : List Due) (after until line : ℕ) → Coming ds 0 until → due_in ds after until line ≡ false
+none_due [] after until line later = refl
+none_due (d ∷ ds) after until line later =
     let head : until < d.at = later 0 (omega arith) (omega arith) in
-    let rest : up_to ds until line ≡ false = none_due ds until line (λ k h g. later (suc k) (omega arith) (omega arith)) in
+    let rest : due_in ds after until line ≡ false = none_due ds after until line (λ k h g. later (suc k) (omega arith) (omega arith)) in
     grind (arith, nat_tests)
 
--- where a search from one place ended at another, the lines that it found are those of the records due
-pub search_ended : (ds : List Due) (from place until : ℕ) (found : ℕ → Bool) → Coming ds place until
-    → ((line : ℕ) → (found line || up_to (drop place ds) until line) ≡ up_to (drop from ds) until line)
-    → found ≡ up_to (drop from ds) until
-search_ended ds from place until found later keeps = fun_ext (λ line.
-    let none : up_to (drop place ds) until line ≡ false = none_due (drop place ds) until line
-    (λ k h g. rw get_or-drop (later (place + k) (omega arith) (omega (arith, length-drop place ds)))) in
-    let all = keeps line in
-    grind (arith, nat_tests))
+-- a record with a number up to this one
+abbrev pub by : ℕ → Due → Bool
+by until d = leb d.at until
 
--- what is due after a clock is due from the place where the later numbers begin
-pub due_from : (ds : List Due) (place clock until line : ℕ) → Gone ds place clock → Coming ds place clock
-    → due_in ds clock until line ≡ up_to (drop place ds) until line
-due_from [] zero clock until line gone later = refl
-due_from [] (suc place) clock until line gone later = refl
-due_from (d ∷ ds) zero clock until line gone later =
+-- the records due are those from the place on whose numbers the clock comes to
+pub due_from : (ds : List Due) (place clock until line : ℕ) → InOrder ds → Gone ds place clock → Coming ds place clock
+    → lines_in (take (prefix_len (by until) (drop place ds)) (drop place ds)) line ≡ due_in ds clock until line
+due_from [] zero clock until line order gone later = refl
+due_from [] (suc place) clock until line order gone later = refl
+due_from (d ∷ ds) zero clock until line order gone later =
     let head : clock < d.at = later 0 (omega arith) (omega arith) in
-    let rest = due_from ds zero clock until line (omega arith, λ k h. absurd (omega arith)) (λ k h g. later (suc k) (omega arith) (omega arith)) in
-    grind (arith, nat_tests)
-due_from (d ∷ ds) (suc place) clock until line gone later =
+    let rest = due_from ds zero clock until line (λ i j h g. order (suc i) (suc j) (omega arith) (omega arith))
+    (omega arith, λ k h. absurd (omega arith)) (λ k h g. later (suc k) (omega arith) (omega arith)) in
+    elim (cases_lt until d.at) [
+      | inl before ↦
+          let none : due_in (d ∷ ds) clock until line ≡ false = none_due (d ∷ ds) clock until line (λ k h g. omega (arith, order 0 k (omega arith) g)) in
+          ap (λ b. lines_in (take (cond b (1 + prefix_len (by until) ds) 0) (d ∷ ds)) line) (lt-leb d.at until before) ∙ sym none
+      | inr there ↦
+          ap (λ b. lines_in (take (cond b (1 + prefix_len (by until) ds) 0) (d ∷ ds)) line) (le-leb d.at until there)
+          ∙ ap (λ n. lines_in (take n (d ∷ ds)) line) (one-add (prefix_len (by until) ds)) ∙ grind (arith, nat_tests)
+    ]
+due_from (d ∷ ds) (suc place) clock until line order gone later =
     let head : d.at ≤ clock = gone.1 0 (omega arith) in
-    let rest = due_from ds place clock until line (omega (arith, gone.0), λ k h. gone.1 (suc k) (omega arith)) (λ k h g. later (suc k) (omega arith) (omega arith)) in
+    let rest = due_from ds place clock until line (λ i j h g. order (suc i) (suc j) (omega arith) (omega arith))
+    (omega (arith, gone.0), λ k h. gone.1 (suc k) (omega arith)) (λ k h g. later (suc k) (omega arith) (omega arith)) in
     grind (arith, nat_tests)
+
+-- the place after those records
+module _ (ds : List Due) (place clock until : ℕ) (gone : Gone ds place clock) (on : clock ≤ until) where
+  abbrev n : ℕ
+  n = prefix_len (by until) (drop place ds)
+
+  pub gone_after : Gone ds (place + n) until
+  gone_after = (
+    omega (arith, gone.0, prefix_len-le-length (by until) (drop place ds), length-drop place ds),
+    λ k h. elim (cases_lt k place) [
+      | inl past ↦ omega (arith, gone.1 k past)
+      | inr more ↦
+          let passes = prefix_len_passes (by until) (drop place ds) (k - place) no_record (omega arith) in
+          let is : place + (k - place) ≡ k = omega arith in
+          let at = get_or-drop place ds (k - place) no_record ∙ ap (λ j. get_or ds j no_record) is in
+          subst (λ (d : Due). d.at ≤ until) at (leb-true _ until passes)
+    ],
+  )
+
+  pub coming_after : InOrder ds → Coming ds (place + n) until
+  coming_after order k h g =
+      let stops = prefix_len_stops (by until) (drop place ds) no_record (omega (arith, length-drop place ds)) in
+      let first : until < (get_or ds (place + n) no_record).at =
+      subst (λ (d : Due). until < d.at) (get_or-drop place ds n no_record) (leb-false _ until stops) in
+      omega (arith, order (place + n) k h g)

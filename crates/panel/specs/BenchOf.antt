@@ -6,4 +6,4 @@ use Rattle.panel.specs.Schedule.{scheduled}
 
 -- the order in which the code keeps the records is no part of it
 abbrev pub bench_of : BenchPanel → Bench
-bench_of p = record { bytes = λ code. slice_index p.bytes code; clock = p.clock; due = scheduled (vec_items p.schedule) }
+bench_of p = record { bytes = λ code. slice_index p.bytes code; clock = p.schedule.clock; due = scheduled (vec_items p.schedule.records) }

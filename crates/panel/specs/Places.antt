@@ -2,10 +2,15 @@
 use Rattle.std.specs.Prelude.{ℕ, ◌<◌, ◌≤◌, Bool, false, ◌&&◌, ◌||◌, List, [], ◌∷◌, length, ◌==◌, nat_le, nat_lt, slice_index_or}
 use Rattle.panel.specs.declared.schedule.Due.{Due}
 
--- the lines of the records whose number is at most this one
-abbrev pub up_to : List Due → ℕ → ℕ → Bool
-up_to [] until line = false
-up_to (d ∷ ds) until line = (nat_le d.at until && (d.line == line && nat_lt line 11)) || up_to ds until line
+-- the lines of records
+abbrev pub lines_in : List Due → ℕ → Bool
+lines_in [] line = false
+lines_in (d ∷ ds) line = (d.line == line && nat_lt line 11) || lines_in ds line
+
+-- the lines of the records after one number and up to another
+abbrev pub due_in : List Due → ℕ → ℕ → ℕ → Bool
+due_in [] after until line = false
+due_in (d ∷ ds) after until line = ((nat_lt after d.at && nat_le d.at until) && (d.line == line && nat_lt line 11)) || due_in ds after until line
 
 -- a record for the places past a schedule's end
 abbrev pub no_record : Due

@@ -11,9 +11,9 @@ pub fn code_of(code: u8) -> u8
 }
 
 // No step of the processor counts more than 59 states.
-pub fn states_of(states: u32) -> u32
+pub fn states_of(states: u32) -> u8
     ensures value { result ≡ states_of states }
     ensures bound { result ≤ 59 }
 {
-    states.min(59)
+    states.min(59) as u8
 }

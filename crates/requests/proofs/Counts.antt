@@ -3,7 +3,9 @@ use Rattle.std.proofs.Common.{◌≡◌, ℕ, ◌+◌, ◌<◌, ◌≤◌, Bool,
 use mathlib.Core.Path.{fun_ext}
 use Rattle.std.proofs.lemmas.Bool.{cases_eq, cases_lt, lt-ltb, le-ltb}
 use Rattle.requests.specs.declared.tally.Tally.{Tally}
-use Rattle.requests.specs.Request.{Request, tally_of, request_of, one, last, when, counted, signalled, dropping}
+use Rattle.requests.specs.declared.tally.Cause.{Cause}
+use Rattle.requests.specs.declared.tally.Cause.TheVariants.{Entry, Test, Reset}
+use Rattle.requests.specs.Request.{Request, tally_of, request_of, one, Whole, last, when, counted, signalled, cleared_by, cleared_in}
 use Rattle.requests.specs.All.{at_line}
 use Rattle.requests.proofs.Places.{at_here, at_other, left_alone}
 
@@ -56,8 +58,28 @@ module _ (rising : ℕ → Bool) (f : Request → Request) (rs : ℕ → Request
   skipped e off = next (λ k. when (rising k) f) rs n m now after
       (e ∙ left_alone (when (rising n) f) m now (ap (λ b. when b f (now m)) (ap rising (sym same) ∙ off))) same so_far
 
--- a reset leaves a line that does not wait
-pub no_drop : (r : Request) → r.waiting ≡ false → dropping r ≡ r
-no_drop r e =
+-- a mark that is set and cleared, counted by its cause
+pub clears : (cause : Cause) (r : Request) (t : Tally) → t ≡ tally_of r → r.waiting ≡ true → request_of false (cleared_in cause t) ≡ cleared_by cause r
+clears Entry r t e on =
+    λ i. record { waiting = false; signals = (e i).signals; merged = (e i).merged; entered = (e i).entered + one (sym on i); tested = (e i).tested; dropped = (e i).dropped }
+clears Test r t e on =
+    λ i. record { waiting = false; signals = (e i).signals; merged = (e i).merged; entered = (e i).entered; tested = (e i).tested + one (sym on i); dropped = (e i).dropped }
+clears Reset r t e on =
+    λ i. record { waiting = false; signals = (e i).signals; merged = (e i).merged; entered = (e i).entered; tested = (e i).tested; dropped = (e i).dropped + one (sym on i) }
+
+pub clears_whole : (cause : Cause) (r : Request) → Whole r → Whole (cleared_by cause r)
+clears_whole Entry r h = omega arith
+clears_whole Test r h = omega arith
+clears_whole Reset r h = omega arith
+
+-- a line that does not wait is left
+pub no_clear : (cause : Cause) (r : Request) → r.waiting ≡ false → cleared_by cause r ≡ r
+no_clear Entry r e =
+    let none : r.entered + one r.waiting ≡ r.entered = ap (λ b. r.entered + one b) e ∙ omega arith in
+    λ i. record { waiting = sym e i; signals = r.signals; merged = r.merged; entered = none i; tested = r.tested; dropped = r.dropped }
+no_clear Test r e =
+    let none : r.tested + one r.waiting ≡ r.tested = ap (λ b. r.tested + one b) e ∙ omega arith in
+    λ i. record { waiting = sym e i; signals = r.signals; merged = r.merged; entered = r.entered; tested = none i; dropped = r.dropped }
+no_clear Reset r e =
     let none : r.dropped + one r.waiting ≡ r.dropped = ap (λ b. r.dropped + one b) e ∙ omega arith in
     λ i. record { waiting = sym e i; signals = r.signals; merged = r.merged; entered = r.entered; tested = r.tested; dropped = none i }

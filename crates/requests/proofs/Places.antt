@@ -1,9 +1,10 @@
 -- What a write of one line's mark and tally makes of the lines. Assumes nothing.
-use Rattle.std.proofs.Common.{◌≡◌, ℕ, ◌<◌, Bool, true, false, not, ◌&&◌, ◌||◌, List, length, get_or, set, replicate, sym, refl, ap, ◌∙◌, subst, inl, inr, arith}
+use Rattle.std.proofs.Common.{◌≡◌, ℕ, ◌<◌, Bool, true, false, List, length, get_or, set, replicate, sym, refl, ap, ◌∙◌, subst, inl, inr, arith}
 use mathlib.Core.Path.{fun_ext}
 use mir.Val.{bool_byte}
 use Rattle.std.proofs.lemmas.List.{get_or-set_same, get_or-set_other, get_or_past}
 use lib.ListN.{get_or-replicate, length-replicate}
+use Rattle.std.proofs.lemmas.Bool.Decides.{nat_tests}
 use Rattle.std.proofs.lemmas.Bool.{cases_eq, cases_lt, eq-eqb, ne_eqb}
 use Rattle.lines.specs.declared.set.Lines.{Lines}
 use Rattle.lines.specs.Of.{lines_of}
@@ -20,31 +21,15 @@ pub record Marked (before after : ℕ → Bool) (n : ℕ) (w : Bool) : Type 0 wh
 
 pub inserted : (before after : ℕ → Bool) (n : ℕ) (w : Bool) → after ≡ with_line before n → w ≡ true → Marked before after n w
 inserted before after n w e on = record {
-  here = ap (λ f. f n) e ∙ ap (λ b. before n || b) (eq-eqb n n refl) ∙ or_true (before n) ∙ sym on;
-  others = λ k ne. ap (λ f. f k) e ∙ ap (λ b. before k || b) (ne_eqb k n ne) ∙ or_false (before k);
+  here = let at = ap (λ f. f n) e in grind (arith, nat_tests);
+  others = λ k ne. let at = ap (λ f. f k) e in grind (arith, nat_tests);
 }
-  where
-    or_true : (b : Bool) → (b || true) ≡ true
-    or_true true = refl
-    or_true false = refl
-
-    or_false : (b : Bool) → (b || false) ≡ b
-    or_false true = refl
-    or_false false = refl
 
 pub removed : (before after : ℕ → Bool) (n : ℕ) (w : Bool) → after ≡ without before n → w ≡ false → Marked before after n w
 removed before after n w e off = record {
-  here = ap (λ f. f n) e ∙ ap (λ b. before n && not b) (eq-eqb n n refl) ∙ and_false (before n) ∙ sym off;
-  others = λ k ne. ap (λ f. f k) e ∙ ap (λ b. before k && not b) (ne_eqb k n ne) ∙ and_true (before k);
+  here = let at = ap (λ f. f n) e in grind (arith, nat_tests);
+  others = λ k ne. let at = ap (λ f. f k) e in grind (arith, nat_tests);
 }
-  where
-    and_false : (b : Bool) → (b && false) ≡ false
-    and_false true = refl
-    and_false false = refl
-
-    and_true : (b : Bool) → (b && true) ≡ b
-    and_true true = refl
-    and_true false = refl
 
 pub at_here : (n k : ℕ) (f : Request → Request) (rs : ℕ → Request) → k ≡ n → at_line n f rs k ≡ f (rs k)
 at_here n k f rs e = ap (λ b. when b f (rs k)) (eq-eqb k n e)

@@ -1,6 +1,8 @@
 -- All that is known of one interrupt line, and what a signal, an entry, a test and a reset make of it.
 use Rattle.std.specs.Prelude.{◌≡◌, ℕ, ◌+◌, Bool, true, false, nat_lt}
 use Rattle.requests.specs.declared.tally.Tally.{Tally}
+use Rattle.requests.specs.declared.tally.Cause.{Cause}
+use Rattle.requests.specs.declared.tally.Cause.TheVariants.{Entry, Test, Reset}
 
 -- whether the mark is set, and what was counted: signals, those of them that found the mark set, and marks cleared by an entry, a test and a reset
 pub record Request : Type 0 where
@@ -60,3 +62,15 @@ testing r = record { waiting = false; signals = r.signals; merged = r.merged; en
 -- the mark cleared by a reset
 abbrev pub dropping : Request → Request
 dropping r = record { waiting = false; signals = r.signals; merged = r.merged; entered = r.entered; tested = r.tested; dropped = r.dropped + one r.waiting }
+
+-- the mark cleared by a cause
+abbrev pub cleared_by : Cause → Request → Request
+cleared_by Entry = entering
+cleared_by Test = testing
+cleared_by Reset = dropping
+
+-- a tally with one mark more cleared
+abbrev pub cleared_in : Cause → Tally → Tally
+cleared_in Entry t = record { signals = t.signals; merged = t.merged; entered = t.entered + 1; tested = t.tested; dropped = t.dropped }
+cleared_in Test t = record { signals = t.signals; merged = t.merged; entered = t.entered; tested = t.tested + 1; dropped = t.dropped }
+cleared_in Reset t = record { signals = t.signals; merged = t.merged; entered = t.entered; tested = t.tested; dropped = t.dropped + 1 }

@@ -12,7 +12,7 @@ count_of t = record { prescaler = t.prescaler % 128; counter = t.counter }
 
 -- both timers
 abbrev pub timing_of : TimerPair → Timing
-timing_of p = record { tmm = p.tmm; tm0 = p.tm0; tm1 = p.tm1; timer0 = count_of p.timer0; timer1 = count_of p.timer1 }
+timing_of p = record { tmm = p.tmm; tm0 = p.timer0.tm; tm1 = p.timer1.tm; timer0 = count_of p.timer0; timer1 = count_of p.timer1 }
 
 -- the timers before a panel
 abbrev pub timers_of : {P S : Type 0} → (P → S) → Timers P → Stacked Timing S

@@ -5,7 +5,8 @@ ghost use Rattle.timers.specs.Timing.{Timing, timing_start, timing_owns, timing_
 ghost use Rattle.timers.specs.TimersOf.{timers_of};
 ghost use Rattle.std.proofs.Common.{rules};
 
-use crate::pair::{TimerPair, owns};
+use crate::pair::TimerPair;
+use crate::register::Register;
 use lines::Lines;
 use panel::{Panel, code_of, states_of};
 
@@ -36,20 +37,16 @@ impl<P: Panel> Panel for Timers<P> {
     ghost only_lines = { Prim.search rules };
 
     fn show(&self, code: u8) -> u8 {
-        let own = code_of(code);
-        if owns(own) {
-            self.pair.show(own)
-        } else {
-            self.behind.show(code)
+        match Register::at(code_of(code)) {
+            Some(register) => self.pair.show(register),
+            None => self.behind.show(code),
         }
     }
 
     fn put(&mut self, code: u8, byte: u8) {
-        let own = code_of(code);
-        if owns(own) {
-            self.pair.put(own, byte);
-        } else {
-            self.behind.put(code, byte);
+        match Register::at(code_of(code)) {
+            Some(register) => self.pair.put(register, byte),
+            None => self.behind.put(code, byte),
         }
     }
 

@@ -2,7 +2,9 @@
 #![tactic(auto)]
 
 mod front;
+mod pace;
 mod pair;
+mod register;
 mod timer;
 mod whole;
 

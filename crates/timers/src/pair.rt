@@ -1,53 +1,27 @@
 // The two timers with their registers.
-ghost use Rattle.std.specs.Prelude.{◌≡◌, ◌≤◌};
+ghost use Rattle.std.specs.Prelude.{◌≡◌};
 ghost use Rattle.lines.specs.Numbers.{number_of};
 ghost use Rattle.lines.specs.Of.{lines_of};
 ghost use Rattle.panel.specs.Rules.{passed, rose};
 ghost use Rattle.timers.specs.Counting.{raised_by};
-ghost use Rattle.timers.specs.Timing.{timing_start, timing_owns, timing_shown, timing_putting, timing_rules, with_mode, stops0, stops1};
+ghost use Rattle.timers.specs.Registers.{code_at};
+ghost use Rattle.timers.specs.Timing.{timing_start, timing_shown, timing_putting, timing_rules, with_mode};
 ghost use Rattle.timers.specs.TimersOf.{timing_of};
 
+use crate::pace::Pace;
+use crate::register::Register;
 use crate::timer::Timer;
 use lines::{Line, Lines};
-
-const TMM: u8 = 0x0d;
-
-const TM0: u8 = 0x1a;
-
-const TM1: u8 = 0x1b;
 
 #[derive(Clone, Copy)]
 pub(crate) struct TimerPair {
     tmm: u8,
-    tm0: u8,
-    tm1: u8,
     timer0: Timer,
     timer1: Timer,
 }
 
-pub(crate) fn owns(code: u8) -> bool
-    ensures { result ≡ timing_owns code }
-{
-    match code {
-        TMM | TM0 | TM1 => true,
-        _ => false,
-    }
-}
-
-fn is_stopped0(tmm: u8) -> bool
-    ensures { result ≡ stops0 tmm }
-{
-    tmm / 16 % 2 == 1
-}
-
-fn is_stopped1(tmm: u8) -> bool
-    ensures { result ≡ stops1 tmm }
-{
-    tmm / 128 % 2 == 1
-}
-
 // Adds a timer's line where the timer matched.
-fn raise(lines: &mut Lines, line: Line, matches: u32)
+fn raise(lines: &mut Lines, line: Line, matches: u8)
     ensures { lines_of lines.new ≡ raised_by (number_of line) matches (lines_of lines.old) }
 {
     if matches > 0 {
@@ -56,64 +30,56 @@ fn raise(lines: &mut Lines, line: Line, matches: u32)
 }
 
 impl TimerPair {
+    // Both are stopped, which a derived default would not make them.
     pub(crate) fn new() -> TimerPair
         ensures { timing_of result ≡ timing_start }
     {
         TimerPair {
             tmm: 0xff,
-            tm0: 0,
-            tm1: 0,
-            timer0: Timer::new(),
-            timer1: Timer::new(),
+            timer0: Timer::default(),
+            timer1: Timer::default(),
         }
     }
 
-    // A code that the timers do not have is taken for TM1's.
-    pub(crate) fn show(&self, code: u8) -> u8
-        ensures { result ≡ timing_shown (timing_of self.now) code }
+    pub(crate) fn show(&self, register: Register) -> u8
+        ensures { result ≡ timing_shown (timing_of self.now) (code_at register) }
     {
-        match code {
-            TMM => self.tmm,
-            TM0 => self.tm0,
-            _ => self.tm1,
+        match register {
+            Register::Tmm => self.tmm,
+            Register::Tm0 => self.timer0.tm,
+            Register::Tm1 => self.timer1.tm,
         }
     }
 
-    pub(crate) fn put(&mut self, code: u8, byte: u8)
-        ensures { timing_of self.new ≡ timing_putting (timing_of self.old) code byte }
+    pub(crate) fn put(&mut self, register: Register, byte: u8)
+        ensures { timing_of self.new ≡ timing_putting (timing_of self.old) (code_at register) byte }
     {
-        match code {
-            TMM => self.set_mode(byte),
-            TM0 => self.tm0 = byte,
-            _ => self.tm1 = byte,
+        match register {
+            Register::Tmm => self.set_mode(byte),
+            Register::Tm0 => self.timer0.tm = byte,
+            Register::Tm1 => self.timer1.tm = byte,
         }
     }
 
-    fn set_mode(&mut self, byte: u8)
-        ensures { timing_of self.new ≡ with_mode (timing_of self.old) byte }
+    fn set_mode(&mut self, tmm: u8)
+        ensures { timing_of self.new ≡ with_mode (timing_of self.old) tmm }
     {
-        self.tmm = byte;
-        if is_stopped0(byte) {
-            self.timer0 = Timer::new();
+        self.tmm = tmm;
+        if Pace::of_mode(tmm).is_none() {
+            self.timer0.clear();
         }
-        if is_stopped1(byte) {
-            self.timer1 = Timer::new();
+        if Pace::of_mode(tmm / 8).is_none() {
+            self.timer1.clear();
         }
     }
 
     // Passes states, and answers the lines that rose. Timer 0 goes first, and its matches are carried over to timer 1.
-    pub(crate) fn pass(&mut self, states: u32) -> Lines
-        requires { states ≤ 59 }
+    pub(crate) fn pass(&mut self, states: u8) -> Lines
         ensures after { timing_of self.new ≡ passed timing_rules (timing_of self.old) states }
         ensures lines { lines_of result ≡ rose timing_rules (timing_of self.old) states }
     {
-        let tmm = self.tmm;
-        let first = self
-            .timer0
-            .pass(is_stopped0(tmm), tmm / 4 % 4, 0, self.tm0, states);
-        let second = self
-            .timer1
-            .pass(is_stopped1(tmm), tmm / 32 % 4, first, self.tm1, states);
+        let first = self.timer0.pass(Pace::of_mode(self.tmm), 0, states);
+        let second = self.timer1.pass(Pace::of_mode(self.tmm / 8), first, states);
         let mut lines = Lines::empty();
         raise(&mut lines, Line::Ft0, first);
         raise(&mut lines, Line::Ft1, second);

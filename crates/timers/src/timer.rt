@@ -1,81 +1,75 @@
-// One timer: a prescaler and a counter.
-ghost use Rattle.std.specs.Prelude.{◌≡◌, ◌≤◌};
-ghost use Rattle.timers.specs.Counting.{counted, matches, steps_in, ran, matched};
+// One timer: its register, a prescaler and a counter.
+ghost use Rattle.std.specs.Prelude.{◌≡◌};
+ghost use Rattle.timers.specs.Counting.{counted, matches};
+ghost use Rattle.timers.specs.Paces.{steps_at, ran_at, matched_at};
 ghost use Rattle.timers.specs.Timing.{cleared};
 ghost use Rattle.timers.specs.TimersOf.{count_of};
 
+use crate::pace::Pace;
+
 // The prescaler runs on past 128, of which 256 is a multiple.
-#[derive(Clone, Copy)]
+// Contracts see it through `count_of`, which forgets the top bit: with such a model it could not be copied.
+#[derive(Clone, Copy, Default)]
 pub(crate) struct Timer {
+    // TM0 or TM1: where the counter matches
+    pub(crate) tm: u8,
     prescaler: u8,
     counter: u8,
 }
 
 impl Timer {
-    pub(crate) fn new() -> Timer
-        ensures { count_of result ≡ cleared }
+    // Counts from nothing on, as a timer that is stopped does.
+    pub(crate) fn clear(&mut self)
+        ensures tm { self.new.tm ≡ self.old.tm }
+        ensures count { count_of self.new ≡ cleared }
     {
-        Timer {
-            prescaler: 0,
-            counter: 0,
-        }
+        self.prescaler = 0;
+        self.counter = 0;
     }
 
     // How often the counter steps in a number of states: as often as the prescaler comes to a multiple, or as timer 0 matched.
-    fn steps(&self, choice: u8, carried: u32, states: u32) -> u32
-        requires states { states ≤ 59 }
-        requires carried { carried ≤ 59 }
-        ensures value { result ≡ steps_in choice carried (count_of self.now).prescaler states }
-        ensures bound { result ≤ 59 }
+    fn steps(&self, pace: Pace, carried: u8, states: u8) -> u8
+        ensures { result ≡ steps_at pace carried (count_of self.now).prescaler states }
     {
-        let before = u32::from(self.prescaler);
-        match choice {
-            0 => (before % 4 + states) / 4,
-            1 => (before % 128 + states) / 128,
-            3 => carried,
-            _ => 0,
+        let before = u16::from(self.prescaler);
+        let states = u16::from(states);
+        match pace {
+            Pace::Every4 => ((before % 4 + states) / 4) as u8,
+            Pace::Every128 => ((before % 128 + states) / 128) as u8,
+            Pace::Never => 0,
+            Pace::Carried => carried,
         }
     }
 
     // Steps the counter, and answers how often it matched: `left` steps go by before the first match, and then every `period`th matches.
-    fn count(&mut self, steps: u32, byte: u8) -> u32
-        requires { steps ≤ 59 }
+    fn count(&mut self, steps: u8) -> u8
+        ensures tm { self.new.tm ≡ self.old.tm }
         ensures prescaler { self.new.prescaler ≡ self.old.prescaler }
-        ensures counter { self.new.counter ≡ counted byte self.old.counter steps }
-        ensures matched { result ≡ matches byte self.old.counter steps }
-        ensures bound { result ≤ 59 }
+        ensures counter { self.new.counter ≡ counted self.old.tm self.old.counter steps }
+        ensures matched { result ≡ matches self.old.tm self.old.counter steps }
     {
-        let left = u32::from(byte.wrapping_sub(self.counter).wrapping_sub(1));
+        let left = self.tm.wrapping_sub(self.counter).wrapping_sub(1);
         if steps <= left {
-            self.counter = self.counter.wrapping_add(steps as u8);
+            self.counter = self.counter.wrapping_add(steps);
             return 0;
         }
-        let past = steps - left - 1;
-        let period = u32::from(byte.wrapping_sub(1)) + 1;
+        let past = u16::from(steps - left - 1);
+        let period = u16::from(self.tm.wrapping_sub(1)) + 1;
         self.counter = (past % period) as u8;
-        past / period + 1
+        (past / period) as u8 + 1
     }
 
     // Passes states, and answers how often the counter matched.
-    pub(crate) fn pass(
-        &mut self,
-        stopped: bool,
-        choice: u8,
-        carried: u32,
-        byte: u8,
-        states: u32,
-    ) -> u32
-        requires states { states ≤ 59 }
-        requires carried { carried ≤ 59 }
-        ensures after { count_of self.new ≡ ran stopped (steps_in choice carried (count_of self.old).prescaler states) states byte (count_of self.old) }
-        ensures matched { result ≡ matched stopped (steps_in choice carried (count_of self.old).prescaler states) byte (count_of self.old) }
-        ensures bound { result ≤ 59 }
+    pub(crate) fn pass(&mut self, pace: Option<Pace>, carried: u8, states: u8) -> u8
+        ensures tm { self.new.tm ≡ self.old.tm }
+        ensures after { count_of self.new ≡ ran_at pace carried states self.old.tm (count_of self.old) }
+        ensures matched { result ≡ matched_at pace carried states self.old.tm (count_of self.old) }
     {
-        if stopped {
+        let Some(pace) = pace else {
             return 0;
-        }
-        let steps = self.steps(choice, carried, states);
-        self.prescaler = self.prescaler.wrapping_add(states as u8);
-        self.count(steps, byte)
+        };
+        let steps = self.steps(pace, carried, states);
+        self.prescaler = self.prescaler.wrapping_add(states);
+        self.count(steps)
     }
 }

@@ -23,10 +23,11 @@ impl Lines {
         self.bits == 0
     }
 
+    #[tactic(auto, unfolding(crate::specs::Of::lines_of))]
     pub fn has(self, line: Line) -> bool
         ensures { result ≡ lines_of self (number_of line) }
     {
-        (self.bits >> line.number()) % 2 == 1
+        line.is_in(self.bits)
     }
 
     pub fn insert(&mut self, line: Line)

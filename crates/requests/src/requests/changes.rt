@@ -3,11 +3,11 @@ ghost use Rattle.std.specs.Prelude.{◌≡◌};
 ghost use Rattle.lines.specs.Numbers.{number_of};
 ghost use Rattle.lines.specs.Of.{lines_of};
 ghost use Rattle.requests.specs.Of.{requests_of};
-ghost use Rattle.requests.specs.Request.{Whole, request_of, signalled, entering, testing, dropping};
+ghost use Rattle.requests.specs.Request.{Whole, request_of, signalled, entering, testing, cleared_by};
 ghost use Rattle.requests.specs.All.{marks_of, at_line, signalled_all, dropped_all};
 
 use super::Requests;
-use crate::tally::Tally;
+use crate::tally::{Cause, Tally};
 use lines::{Line, Lines};
 
 // A line that has had so many signals takes no more, which no run comes near: so a signal asks for nothing.
@@ -35,7 +35,7 @@ impl Requests {
         if tally.signals < LAST {
             let more = Tally {
                 signals: tally.signals + 1,
-                merged: tally.merged + self.waits(line),
+                merged: tally.merged + u64::from(self.marks.has(line)),
                 ..tally
             };
             self.put(line, true, more);
@@ -63,13 +63,24 @@ impl Requests {
         }
     }
 
+    // Clears the mark, counts it by its cause, and answers whether it was set.
+    fn clear(&mut self, line: Line, cause: Cause) -> bool
+        ensures after { requests_of self.new ≡ at_line (number_of line) (cleared_by cause) (requests_of self.old) }
+        ensures answer { result ≡ marks_of (requests_of self.old) (number_of line) }
+    {
+        let waiting = self.marks.has(line);
+        if waiting {
+            let tally = self.tally(line).with_cleared(cause);
+            self.put(line, false, tally);
+        }
+        waiting
+    }
+
     // Clears the mark, as an entry does.
     pub fn enter(&mut self, line: Line)
         ensures { requests_of self.new ≡ at_line (number_of line) entering (requests_of self.old) }
     {
-        let tally = self.tally(line);
-        let entered = tally.entered + self.waits(line);
-        self.put(line, false, Tally { entered, ..tally });
+        let _ = self.clear(line, Cause::Entry);
     }
 
     // Clears the mark, as SKIT and SKNIT do, and answers whether it was set.
@@ -77,20 +88,7 @@ impl Requests {
         ensures after { requests_of self.new ≡ at_line (number_of line) testing (requests_of self.old) }
         ensures answer { result ≡ marks_of (requests_of self.old) (number_of line) }
     {
-        let tally = self.tally(line);
-        let waiting = self.marks.has(line);
-        let tested = tally.tested + self.waits(line);
-        self.put(line, false, Tally { tested, ..tally });
-        waiting
-    }
-
-    // Clears one mark, as a reset does.
-    fn drop_one(&mut self, line: Line)
-        ensures { requests_of self.new ≡ at_line (number_of line) dropping (requests_of self.old) }
-    {
-        let tally = self.tally(line);
-        let dropped = tally.dropped + self.waits(line);
-        self.put(line, false, Tally { dropped, ..tally });
+        self.clear(line, Cause::Test)
     }
 
     // Clears every mark, as a reset does.
@@ -98,7 +96,7 @@ impl Requests {
         ensures { requests_of self.new ≡ dropped_all (requests_of self.old) }
     {
         for line in Line::ALL {
-            self.drop_one(line);
+            let _ = self.clear(line, Cause::Reset);
         }
     }
 }

@@ -11,7 +11,7 @@ use crate::tally::Tally;
 use lines::{Line, Lines};
 
 impl Requests {
-    // No line had a signal.
+    // No line had a signal. A default by hand would be no shorter, and none can be derived beside a ghost field.
     pub fn new() -> Requests
         ensures { requests_of result ≡ (λ k. quiet) }
     {
@@ -22,6 +22,7 @@ impl Requests {
     }
 
     // The lines that wait.
+    #[tactic(auto, unfolding(crate::specs::Of::requests_of))]
     pub fn marks(&self) -> Lines
         ensures { lines_of result ≡ marks_of (requests_of self.now) }
     {
@@ -34,12 +35,5 @@ impl Requests {
         ensures whole { result.signals ≡ result.merged + result.entered + result.tested + result.dropped + one (marks_of (requests_of self.now) (number_of line)) }
     {
         self.tallies[usize::from(line.number())]
-    }
-
-    // 1 if the line waits, and 0 if not.
-    pub(super) fn waits(&self, line: Line) -> u64
-        ensures { result ≡ one (marks_of (requests_of self.now) (number_of line)) }
-    {
-        u64::from(self.marks.has(line))
     }
 }

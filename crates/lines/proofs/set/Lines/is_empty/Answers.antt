@@ -10,5 +10,5 @@ unfolding lines_of
 returns c =
     let bits = c.args.self.bits in (
       λ e. ap bit (eqb-true bits 0 e) ∙ (λ i k. bit_zero k i),
-      λ none. eq-eqb bits 0 (no_bits 11 bits c.args.self.ok (λ k. ap (λ f. f k) none)),
+      λ none. eq-eqb bits 0 (no_bits bits (λ k. ap (λ f. f k) none)),
     )

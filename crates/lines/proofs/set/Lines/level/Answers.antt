@@ -1,5 +1,4 @@
-use Rattle.std.proofs.Common.{◌≡◌, ◌≤◌, sym, ap, arith}
-use lib.Count.{count_trailing_zeros}
+use Rattle.std.proofs.Common.{sym, ap, arith}
 use Rattle.lines.specs.Levels.{named_level}
 use Rattle.lines.specs.Of.{lines_of}
 use Rattle.lines.proofs.Digits.{levelled, no_level}
@@ -8,37 +7,37 @@ use Rattle.lines.proofs.set.Lines.level.Goals as goal
 pub returns-in-0 : goal.returns-in-0
 unfolding lines_of
 returns-in-0 c =
-    let is = levelled c.args.self.bits 0 c.args.self.ok (omega arith) (omega arith) in
+    let is = levelled c.args.self.bits c.args.self.ok 0 (omega arith) (omega arith) in
     record { value = sym (ap named_level is); number = sym is }
 
 pub returns-in-1 : goal.returns-in-1
 unfolding lines_of
 returns-in-1 c =
-    let is = levelled c.args.self.bits 1 c.args.self.ok (omega arith) (omega arith) in
+    let is = levelled c.args.self.bits c.args.self.ok 1 (omega arith) (omega arith) in
     record { value = sym (ap named_level is); number = sym is }
 
 pub returns-in-3 : goal.returns-in-3
 unfolding lines_of
 returns-in-3 c =
-    let is = levelled c.args.self.bits 2 c.args.self.ok (omega arith) (omega arith) in
+    let is = levelled c.args.self.bits c.args.self.ok 2 (omega arith) (omega arith) in
     record { value = sym (ap named_level is); number = sym is }
 
 pub returns-in-5 : goal.returns-in-5
 unfolding lines_of
 returns-in-5 c =
-    let is = levelled c.args.self.bits 3 c.args.self.ok (omega arith) (omega arith) in
+    let is = levelled c.args.self.bits c.args.self.ok 3 (omega arith) (omega arith) in
     record { value = sym (ap named_level is); number = sym is }
 
 pub returns-in-7 : goal.returns-in-7
 unfolding lines_of
 returns-in-7 c =
-    let is = levelled c.args.self.bits 4 c.args.self.ok (omega arith) (omega arith) in
+    let is = levelled c.args.self.bits c.args.self.ok 4 (omega arith) (omega arith) in
     record { value = sym (ap named_level is); number = sym is }
 
 pub returns-in-9 : goal.returns-in-9
 unfolding lines_of
 returns-in-9 c =
-    let is = levelled c.args.self.bits 5 c.args.self.ok (omega arith) (omega arith) in
+    let is = levelled c.args.self.bits c.args.self.ok 5 (omega arith) (omega arith) in
     record { value = sym (ap named_level is); number = sym is }
 
 pub returns-in_default : goal.returns-in_default
