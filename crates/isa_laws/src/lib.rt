@@ -28,6 +28,7 @@ pub fn defined_codes() -> u16
 }
 
 /// Whether two bytes begin with an instruction's opcode, which is to say that they decode to it.
+#[tactic(auto, using(crate::proofs::Forth::inverse))]
 pub fn is_code_of(instruction: Instruction, first: u8, second: u8) -> bool
     ensures value { result ≡ begins (encoded instruction) first second }
     ensures sound { result ≡ true → decoded first second ≡ Ok instruction }
