@@ -20,6 +20,7 @@ pub enum Undefined {
 }
 
 /// The second byte matters behind the prefixes 48H, 4CH, 4DH, 60H, 64H, 70H and 74H only.
+#[tactic(auto, unfolding(crate::specs::Decoding::behind_48, crate::specs::Decoding::behind_4c, crate::specs::Decoding::behind_4d, crate::specs::Decoding::behind_60, crate::specs::Decoding::behind_64, crate::specs::Decoding::behind_70, crate::specs::Decoding::behind_74))]
 pub fn decode(first: u8, second: u8) -> Result<Instruction, Undefined>
     ensures { result ≡ decoded first second }
 {

@@ -2,10 +2,10 @@ use Rattle.std.proofs.Common.{◌≡◌, ℕ, ◌%◌, ◌<◌, Bool, cond, Ok, 
 use Rattle.std.proofs.lemmas.Bool.{lt-ltb}
 use Rattle.isa.specs.declared.instructions.Instruction.TheVariants.{Transfer, Arithmetic, Jump, Control}
 use Rattle.isa.specs.declared.instructions.Transfer.TheVariants.{MovToR1, MovFromR1, MovLoad, MovStore, Mvi, Mvix, Stax, Ldax, DmovFromEa, DmovToEa, Push, Pop}
-use Rattle.isa.specs.declared.instructions.Arithmetic.TheVariants.{Eadd, Esub, Mul, Div, Inr, Dcr, Rll, Rlr, Sll, Slr, Sllc, Slrc}
+use Rattle.isa.specs.declared.instructions.Arithmetic.TheVariants.{Eadd, Esub, Mul, Div, Inr, Dcr, Rll, Rlr}
 use Rattle.isa.specs.declared.instructions.Jump.TheVariants.{Jr, Calf, Calt}
-use Rattle.isa.specs.declared.instructions.Control.TheVariants.{Bit, Sk, Skn, Skit, Sknit}
-use Rattle.isa.specs.Codes.{flag_at, line_coded, r1_at, r2_at, register_at, rp1_at, rp3_at, rpa2_at}
+use Rattle.isa.specs.declared.instructions.Control.TheVariants.{Bit, Skit, Sknit}
+use Rattle.isa.specs.Codes.{line_coded, r1_at, r2_at, register_at, rp1_at, rp3_at, rpa2_at}
 use Rattle.isa.specs.Decoding.{Decoded, decoded, behind_48, table_48, behind_4c, table_4c, behind_4d, table_4d, behind_60, table_60, behind_64, table_64, behind_70, table_70, behind_74, table_74, low_70, high_70}
 use Rattle.isa.proofs.Rows.{agree}
 use Rattle.isa.proofs.decoding.decode.Goals as goal
@@ -96,36 +96,6 @@ returns-in-187-to-191 c = let e = agree (λ n. Ok (Transfer (Stax (rpa2_at (n % 
 pub returns-in-192-to-255 : goal.returns-in-192-to-255
 returns-in-192-to-255 c = let e = agree (λ n. Ok (Jump (Jr (n % 64)))) (λ n. decoded n c.args.second) 192 64 refl c.args.first (search rules) (search rules) in cc
 
-pub returns-in-1-to-3 : goal.returns-in-1-to-3
-returns-in-1-to-3 c = let e = agree (λ n. Ok (Arithmetic (Slrc (r2_at (n % 4))))) table_48 1 3 refl c.args.second (search rules) (search rules) in via_48 _ c.args.first c.args.second (search rules) (cc)
-
-pub returns-in-5-to-7 : goal.returns-in-5-to-7
-returns-in-5-to-7 c = let e = agree (λ n. Ok (Arithmetic (Sllc (r2_at (n % 4))))) table_48 5 3 refl c.args.second (search rules) (search rules) in via_48 _ c.args.first c.args.second (search rules) (cc)
-
-pub returns-in-10-to-12 : goal.returns-in-10-to-12
-returns-in-10-to-12 c = let e = agree (λ n. Ok (Control (Sk (flag_at (n % 8))))) table_48 10 3 refl c.args.second (search rules) (search rules) in via_48 _ c.args.first c.args.second (search rules) (cc)
-
-pub returns-in-26-to-28 : goal.returns-in-26-to-28
-returns-in-26-to-28 c = let e = agree (λ n. Ok (Control (Skn (flag_at (n % 8))))) table_48 26 3 refl c.args.second (search rules) (search rules) in via_48 _ c.args.first c.args.second (search rules) (cc)
-
-pub returns-in-33-to-35 : goal.returns-in-33-to-35
-returns-in-33-to-35 c = let e = agree (λ n. Ok (Arithmetic (Slr (r2_at (n % 4))))) table_48 33 3 refl c.args.second (search rules) (search rules) in via_48 _ c.args.first c.args.second (search rules) (cc)
-
-pub returns-in-37-to-39 : goal.returns-in-37-to-39
-returns-in-37-to-39 c = let e = agree (λ n. Ok (Arithmetic (Sll (r2_at (n % 4))))) table_48 37 3 refl c.args.second (search rules) (search rules) in via_48 _ c.args.first c.args.second (search rules) (cc)
-
-pub returns-in-40 : goal.returns-in-40
-returns-in-40 c = via_48 _ c.args.first c.args.second (search rules) (search rules)
-
-pub returns-in-41 : goal.returns-in-41
-returns-in-41 c = via_48 _ c.args.first c.args.second (search rules) (search rules)
-
-pub returns-in-42 : goal.returns-in-42
-returns-in-42 c = via_48 _ c.args.first c.args.second (search rules) (search rules)
-
-pub returns-in-43 : goal.returns-in-43
-returns-in-43 c = via_48 _ c.args.first c.args.second (search rules) (search rules)
-
 pub returns-in-45-to-47 : goal.returns-in-45-to-47
 returns-in-45-to-47 c = let e = agree (λ n. Ok (Arithmetic (Mul (r2_at (n % 4))))) table_48 45 3 refl c.args.second (search rules) (search rules) in via_48 _ c.args.first c.args.second (search rules) (cc)
 
@@ -134,18 +104,6 @@ returns-in-49-to-51 c = let e = agree (λ n. Ok (Arithmetic (Rlr (r2_at (n % 4))
 
 pub returns-in-53-to-55 : goal.returns-in-53-to-55
 returns-in-53-to-55 c = let e = agree (λ n. Ok (Arithmetic (Rll (r2_at (n % 4))))) table_48 53 3 refl c.args.second (search rules) (search rules) in via_48 _ c.args.first c.args.second (search rules) (cc)
-
-pub returns-in-56 : goal.returns-in-56
-returns-in-56 c = via_48 _ c.args.first c.args.second (search rules) (search rules)
-
-pub returns-in-57 : goal.returns-in-57
-returns-in-57 c = via_48 _ c.args.first c.args.second (search rules) (search rules)
-
-pub returns-in-58 : goal.returns-in-58
-returns-in-58 c = via_48 _ c.args.first c.args.second (search rules) (search rules)
-
-pub returns-in-59 : goal.returns-in-59
-returns-in-59 c = via_48 _ c.args.first c.args.second (search rules) (search rules)
 
 pub returns-in-61-to-63 : goal.returns-in-61-to-63
 returns-in-61-to-63 c = let e = agree (λ n. Ok (Arithmetic (Div (r2_at (n % 4))))) table_48 61 3 refl c.args.second (search rules) (search rules) in via_48 _ c.args.first c.args.second (search rules) (cc)
@@ -161,21 +119,6 @@ returns-in-130-to-133 c = via_48 _ c.args.first c.args.second (search rules) (se
 
 pub returns-in-146-to-149 : goal.returns-in-146-to-149
 returns-in-146-to-149 c = via_48 _ c.args.first c.args.second (search rules) (search rules)
-
-pub returns-in-160 : goal.returns-in-160
-returns-in-160 c = via_48 _ c.args.first c.args.second (search rules) (search rules)
-
-pub returns-in-164 : goal.returns-in-164
-returns-in-164 c = via_48 _ c.args.first c.args.second (search rules) (search rules)
-
-pub returns-in-168-second : goal.returns-in-168-second
-returns-in-168-second c = via_48 _ c.args.first c.args.second (search rules) (search rules)
-
-pub returns-in-176 : goal.returns-in-176
-returns-in-176 c = via_48 _ c.args.first c.args.second (search rules) (search rules)
-
-pub returns-in-180 : goal.returns-in-180
-returns-in-180 c = via_48 _ c.args.first c.args.second (search rules) (search rules)
 
 pub returns-in_default : goal.returns-in_default
 returns-in_default c = via_48 _ c.args.first c.args.second (search rules) (search rules)
@@ -228,23 +171,14 @@ returns-in_default-16 c = via_48 _ c.args.first c.args.second (search rules) (se
 pub returns-in-76 : goal.returns-in-76
 returns-in-76 c = via_4c _ c.args.first c.args.second (search rules) (search rules)
 
-pub returns-in-76-2 : goal.returns-in-76-2
-returns-in-76-2 c = via_4c _ c.args.first c.args.second (search rules) (search rules)
-
 pub returns-in-76-2-2 : goal.returns-in-76-2-2
 returns-in-76-2-2 c = via_4c _ c.args.first c.args.second (search rules) (search rules)
 
 pub returns-in-77 : goal.returns-in-77
 returns-in-77 c = via_4d _ c.args.first c.args.second (search rules) (search rules)
 
-pub returns-in-77-2 : goal.returns-in-77-2
-returns-in-77-2 c = via_4d _ c.args.first c.args.second (search rules) (search rules)
-
 pub returns-in-77-2-2 : goal.returns-in-77-2-2
 returns-in-77-2-2 c = via_4d _ c.args.first c.args.second (search rules) (search rules)
-
-pub returns-in-96 : goal.returns-in-96
-returns-in-96 c = via_60 _ c.args.first c.args.second (search rules) (search rules)
 
 pub returns-in-96-2 : goal.returns-in-96-2
 returns-in-96-2 c = via_60 _ c.args.first c.args.second (search rules) (search rules)
@@ -255,12 +189,6 @@ returns-in-96-3 c = via_60 _ c.args.first c.args.second (search rules) (search r
 pub returns-in-96-4 : goal.returns-in-96-4
 returns-in-96-4 c = via_60 _ c.args.first c.args.second (search rules) (search rules)
 
-pub returns-in-100 : goal.returns-in-100
-returns-in-100 c = via_64 _ c.args.first c.args.second (search rules) (search rules)
-
-pub returns-in-100-2 : goal.returns-in-100-2
-returns-in-100-2 c = via_64 _ c.args.first c.args.second (search rules) (search rules)
-
 pub returns-in-100-3 : goal.returns-in-100-3
 returns-in-100-3 c = via_64 _ c.args.first c.args.second (search rules) (search rules)
 
@@ -269,9 +197,6 @@ returns-in-112-2 c = via_70 _ c.args.first c.args.second (search rules) (search 
 
 pub returns-in-112-3 : goal.returns-in-112-3
 returns-in-112-3 c = via_70 _ c.args.first c.args.second (search rules) (search rules)
-
-pub returns-in-116 : goal.returns-in-116
-returns-in-116 c = via_74 _ c.args.first c.args.second (search rules) (search rules)
 
 pub returns-in-116-2 : goal.returns-in-116-2
 returns-in-116-2 c = via_74 _ c.args.first c.args.second (search rules) (search rules)
@@ -284,12 +209,6 @@ returns-in-116-4 c = via_74 _ c.args.first c.args.second (search rules) (search 
 
 pub returns-in-116-5 : goal.returns-in-116-5
 returns-in-116-5 c = via_74 _ c.args.first c.args.second (search rules) (search rules)
-
-pub returns-in-14 : goal.returns-in-14
-returns-in-14 c = via_70_low _ c.args.first c.args.second (search rules) (search rules) (search rules)
-
-pub returns-in-15 : goal.returns-in-15
-returns-in-15 c = via_70_low _ c.args.first c.args.second (search rules) (search rules) (search rules)
 
 pub returns-in-65-to-67-second : goal.returns-in-65-to-67-second
 returns-in-65-to-67-second c = let e = agree (λ n. Ok (Arithmetic (Eadd (r2_at (n % 4))))) low_70 65 3 refl c.args.second (search rules) (search rules) in via_70_low _ c.args.first c.args.second (search rules) (search rules) (cc)
