@@ -1,5 +1,5 @@
 -- Decimal adjust after an addition is decimal addition. Assumes nothing.
-use Rattle.std.proofs.Common.{◌≡◌, ℕ, ◌+◌, ◌*◌, ◌/◌, ◌%◌, ◌≤◌, Bool, true, false, leb, arith}
+use Rattle.std.proofs.Common.{◌≡◌, ℕ, ◌+◌, ◌*◌, ◌/◌, ◌%◌, ◌≤◌, leb, arith}
 use Rattle.std.proofs.lemmas.Bool.Decides.{nat_tests}
 use Rattle.registers.specs.Psw.{one}
 use Rattle.alu.specs.Decimal.{correction, corrected, Totals, DecimalAddition}
@@ -9,14 +9,9 @@ adjusts : (i j sum lows total : ℕ) → i ≤ 18 → j ≤ 19 → sum ≡ 16 * 
     → Totals total (corrected (sum % 256) (correction (sum % 256) (leb 16 lows) (leb 256 sum)))
 adjusts i j sum lows total hi hj s l t = (grind (arith, nat_tests), grind (arith, nat_tests))
 
-one_le : (c : Bool) → one c ≤ 1
-one_le true = omega arith
-one_le false = omega arith
-
 pub decimal_addition : DecimalAddition
 unfolding DecimalAddition
-decimal_addition m n f p q =
-    let c = one_le f.carry in (
-      adjusts (m / 10 + n / 10) (m % 10 + n % 10) _ _ _ (omega arith) (omega arith) (omega arith) (omega arith) (omega arith),
-      adjusts (m / 10 + n / 10) (m % 10 + n % 10 + one f.carry) _ _ _ (omega arith) (omega arith) (omega arith) (omega arith) (omega arith),
-    )
+decimal_addition m n f p q = (
+  adjusts (m / 10 + n / 10) (m % 10 + n % 10) _ _ _ (omega arith) (omega arith) (omega arith) (omega arith) (omega arith),
+  adjusts (m / 10 + n / 10) (m % 10 + n % 10 + one f.carry) _ _ _ (omega arith) (grind (arith, nat_tests)) (omega arith) (omega arith) (omega arith),
+)

@@ -21,7 +21,7 @@ pub fn operate(operation: Operation, width: Width, a: u16, b: u16, flags: &mut F
     value
 }
 
-/// An operation on two bytes.
+/// An operation on two bytes: the one above at their width, in their type.
 pub fn operate_byte(operation: Operation, a: u8, b: u8, flags: &mut Flags) -> u8
     ensures value { result ≡ (operated operation Width.Byte a b flags.old).value }
     ensures after { flags.new ≡ flagged operation (operated operation Width.Byte a b flags.old) flags.old }
@@ -30,6 +30,7 @@ pub fn operate_byte(operation: Operation, a: u8, b: u8, flags: &mut Flags) -> u8
 }
 
 // What an operation forms; a bitwise one leaves HC and CY.
+#[tactic(auto, using(std::proofs::lemmas::Nat::or_lt, std::proofs::lemmas::Nat::xor_lt))]
 fn form(operation: Operation, operands: Operands, flags: &mut Flags) -> u16
     ensures value { result ≡ (formed operation operands.width operands.a operands.b flags.old).value }
     ensures bound { result < whole operands.width }

@@ -25,7 +25,7 @@ impl Bits {
         }
     }
 
-    // One place to the right, with a bit in at the top; bit 0 goes out.
+    // One place to the right, with a bit in at the top; bit 0 goes out. The two ways are two formulas, and no constant tells them apart.
     pub(crate) fn right(self, bit: bool, flags: &mut Flags) -> u16
         ensures value { result ≡ (rightward self.width self.value bit).moved }
         ensures bound { result < whole self.width }

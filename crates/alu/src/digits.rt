@@ -8,6 +8,7 @@ use crate::sums::Operands;
 use registers::flags::Flags;
 
 /// Makes the sum of two packed decimal bytes, with the flags that its addition set, packed decimal again. Sets Z, HC and CY.
+#[tactic(auto, using(crate::proofs::Addition::decimal_addition))]
 pub fn decimal_adjust(a: u8, flags: &mut Flags) -> u8
     ensures value { result ≡ (adjusted a flags.old).value }
     ensures after { flags.new ≡ marked (adjusted a flags.old) flags.old.skip flags.old }
@@ -40,6 +41,7 @@ fn correct_high(limit: u8, digit: u8, carry: bool) -> u8
     if carry || limit < digit { 0x60 } else { 0x00 }
 }
 
+// The two rotates of digits differ in where each digit goes, and no constant tells them apart.
 /// Rotates three digits to the left, A's low digit and the two of a cell: answers the cell.
 pub fn rotate_digits_left(a: &mut u8, cell: u8) -> u8
     ensures value { result ≡ digits (low cell) (low a.old) }

@@ -34,7 +34,7 @@ pub fn shift_bits(shift: Shift, width: Width, value: u16, flags: &mut Flags) -> 
     }
 }
 
-/// The bits of a byte moved by one place.
+/// The bits of a byte moved by one place: the one above at its width, in its type.
 pub fn shift_byte(shift: Shift, byte: u8, flags: &mut Flags) -> u8
     ensures value { result ≡ (shifted shift Width.Byte byte flags.old.carry).moved }
     ensures after { flags.new ≡ with_carry (shifted shift Width.Byte byte flags.old.carry).out flags.old }

@@ -1,14 +1,14 @@
 // The operations on bytes: operands and the PSW before, the value and the PSW after. Z is 40H, SK 20H, HC 10H, L1 and L0 0CH, CY 01H.
+use crate::rows;
 use alu::{Operation, operate_byte};
-use registers::flags::Flags;
 use std::process::Abort;
 
 fn hold(rt: &impl Abort, cases: &[(Operation, u8, u8, u8, u8, u8)]) {
-    for (operation, a, b, before, value, after) in cases {
-        let mut flags = Flags::from(*before);
-        assert_eq!(rt; operate_byte(*operation, *a, *b, &mut flags), *value);
-        assert_eq!(rt; u8::from(flags), *after);
-    }
+    rows::hold(
+        rt,
+        |operation, a, b, flags| operate_byte(operation, a, b, flags),
+        cases,
+    );
 }
 
 #[test]

@@ -16,4 +16,6 @@ mod places;
 #[cfg(test)]
 mod products;
 #[cfg(test)]
+mod rows;
+#[cfg(test)]
 mod words;

@@ -1,36 +1,28 @@
 // Shifts and rotates: a value and the PSW before, the value and the PSW after.
 use alu::{Shift, Width, shift_bits, shift_byte, shift_byte_and_skip};
 use registers::flags::Flags;
+use std::fmt::Debug;
 use std::process::Abort;
 
-fn move_bytes(rt: &impl Abort, cases: &[(Shift, u8, u8, u8, u8)]) {
-    for (shift, byte, before, moved, after) in cases {
-        let mut flags = Flags::from(*before);
-        assert_eq!(rt; shift_byte(*shift, *byte, &mut flags), *moved);
-        assert_eq!(rt; u8::from(flags), *after);
-    }
-}
-
-fn move_and_skip(rt: &impl Abort, cases: &[(Shift, u8, u8, u8, u8)]) {
-    for (shift, byte, before, moved, after) in cases {
-        let mut flags = Flags::from(*before);
-        assert_eq!(rt; shift_byte_and_skip(*shift, *byte, &mut flags), *moved);
-        assert_eq!(rt; u8::from(flags), *after);
-    }
-}
-
-fn move_words(rt: &impl Abort, cases: &[(Shift, u16, u8, u16, u8)]) {
+fn hold<V: Copy + PartialEq + Debug, F: Fn(Shift, V, &mut Flags) -> V>(
+    rt: &impl Abort,
+    moves: F,
+    cases: &[(Shift, V, u8, V, u8)],
+)
+    requires { F.IsAlwaysCallable moves }
+{
     for (shift, value, before, moved, after) in cases {
         let mut flags = Flags::from(*before);
-        assert_eq!(rt; shift_bits(*shift, Width::Word, *value, &mut flags), *moved);
+        assert_eq!(rt; moves(*shift, *value, &mut flags), *moved);
         assert_eq!(rt; u8::from(flags), *after);
     }
 }
 
 #[test]
 fn bytes(rt: HostRuntime) {
-    move_bytes(
+    hold(
         &rt,
+        |shift, byte, flags| shift_byte(shift, byte, flags),
         &[
             (Shift::Right, 0x01, 0x00, 0x00, 0x01),
             (Shift::Right, 0x82, 0x01, 0x41, 0x00),
@@ -46,8 +38,9 @@ fn bytes(rt: HostRuntime) {
 
 #[test]
 fn skipping(rt: HostRuntime) {
-    move_and_skip(
+    hold(
         &rt,
+        |shift, byte, flags| shift_byte_and_skip(shift, byte, flags),
         &[
             (Shift::Right, 0x01, 0x00, 0x00, 0x21),
             (Shift::Right, 0x02, 0x21, 0x01, 0x00),
@@ -59,8 +52,9 @@ fn skipping(rt: HostRuntime) {
 
 #[test]
 fn words(rt: HostRuntime) {
-    move_words(
+    hold(
         &rt,
+        |shift, word, flags| shift_bits(shift, Width::Word, word, flags),
         &[
             (Shift::Right, 0x0001, 0x00, 0x0000, 0x01),
             (Shift::Right, 0x8100, 0x01, 0x4080, 0x00),

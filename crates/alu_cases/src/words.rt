@@ -1,17 +1,15 @@
 // The operations on words, as those on bytes; the half carry is the one past bit 11.
+use crate::rows;
 use alu::{Operation, Width, operate};
 use registers::flags::Flags;
 use std::process::Abort;
 
 fn hold(rt: &impl Abort, cases: &[(Operation, u16, u16, u8, u16, u8)]) {
-    for (operation, a, b, before, value, after) in cases {
-        let mut flags = Flags::from(*before);
-        assert_eq!(rt;
-            operate(*operation, Width::Word, *a, *b, &mut flags),
-            *value
-        );
-        assert_eq!(rt; u8::from(flags), *after);
-    }
+    rows::hold(
+        rt,
+        |operation, a, b, flags| operate(operation, Width::Word, a, b, flags),
+        cases,
+    );
 }
 
 #[test]
