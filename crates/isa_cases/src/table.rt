@@ -39,14 +39,13 @@ fn cost(letter: u8) -> (u8, u8, u8) {
 }
 
 fn found(first: u8, second: u8) -> (u8, u8, u8) {
-    match decode(first, second) {
-        Ok(instruction) => (
+    decode(first, second).map_or((0, 0, 0), |instruction| {
+        (
             instruction.length(),
             instruction.states(),
             instruction.skipped(),
-        ),
-        Err(_) => (0, 0, 0),
-    }
+        )
+    })
 }
 
 fn undefined_by(first: u8, second: u8) -> u8 {
@@ -64,27 +63,35 @@ fn agrees(rt: &impl Abort, first: u8, second: u8, letter: u8) {
     assert_eq!(rt; undefined_by(first, second) == b'.', letter == b'.');
 }
 
-fn one_if_letter(letter: u8) -> u16 {
-    match letter {
-        b'-' | b'.' | b'*' => 0,
-        _ => 1,
-    }
+// How many codes a row has.
+fn codes(row: &str) -> usize {
+    row.bytes()
+        .filter(|letter| !matches!(*letter, b'-' | b'.' | b'*'))
+        .count()
+}
+
+// How many codes a sheet has.
+fn count(sheet: &[&str; 16]) -> usize {
+    sheet
+        .iter()
+        .fold(0usize, |sum, row| sum.wrapping_add(codes(row)))
 }
 
 // A prefix against its sheet; how many codes the sheet has.
-fn behind(rt: &impl Abort, first: u8, sheet: &[&str; 16]) -> u16 {
+fn behind(rt: &impl Abort, first: u8, sheet: &[&str; 16]) -> usize {
     assert!(rt; is_prefix(first));
-    let mut second: u8 = 0;
-    let mut count: u16 = 0;
-    for row in sheet {
+    for (row, high) in sheet.iter().zip(0..16u8) {
         assert_eq!(rt; row.len(), 16);
-        for letter in row.bytes() {
-            agrees(rt, first, second, letter);
-            count = count.wrapping_add(one_if_letter(letter));
-            second = second.wrapping_add(1);
+        for (letter, low) in row.bytes().zip(0..16u8) {
+            agrees(rt, first, byte(high, low), letter);
         }
     }
-    count
+    count(sheet)
+}
+
+// The byte of a row and a column.
+fn byte(high: u8, low: u8) -> u8 {
+    high.wrapping_mul(16).wrapping_add(low)
 }
 
 // A first byte against its letter, whatever byte is behind it.
@@ -96,22 +103,18 @@ fn alone(rt: &impl Abort, first: u8, letter: u8) {
 }
 
 // The first bytes against their sheet; how many codes of one byte it has.
-fn firsts(rt: &impl Abort, sheet: &[&str; 16]) -> u16 {
-    let mut first: u8 = 0;
-    let mut count: u16 = 0;
-    for row in sheet {
+fn firsts(rt: &impl Abort, sheet: &[&str; 16]) -> usize {
+    for (row, high) in sheet.iter().zip(0..16u8) {
         assert_eq!(rt; row.len(), 16);
-        for letter in row.bytes() {
+        for (letter, low) in row.bytes().zip(0..16u8) {
             if letter == b'*' {
-                assert!(rt; is_prefix(first));
+                assert!(rt; is_prefix(byte(high, low)));
             } else {
-                alone(rt, first, letter);
+                alone(rt, byte(high, low), letter);
             }
-            count = count.wrapping_add(one_if_letter(letter));
-            first = first.wrapping_add(1);
         }
     }
-    count
+    count(sheet)
 }
 
 const FIRST: [&str; 16] = [
