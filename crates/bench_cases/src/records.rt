@@ -103,15 +103,13 @@ fn a_page_is_that_part_of_the_session(rt: HostRuntime) -> Result<(), Fail> {
     session[258] = 0x77;
     let found = Record::read(&session, 1)?;
     assert_eq!(rt; (found.body, found.page, found.length), (2, Some(3), 258));
-    match found.value {
-        Record::Page { page, bytes } => {
-            assert_eq!(rt; page, 0xff);
-            assert_eq!(rt; bytes.len(), 256);
-            assert_eq!(rt; bytes.last().copied(), Some(0x77));
-            Ok(())
-        }
-        _ => Err(Fail::new("no page")),
-    }
+    let Record::Page { page, bytes } = found.value else {
+        return Err(Fail::new("no page"));
+    };
+    assert_eq!(rt; page, 0xff);
+    assert_eq!(rt; bytes.len(), 256);
+    assert_eq!(rt; bytes.last().copied(), Some(0x77));
+    Ok(())
 }
 
 /// Why a record is not read, by its number; 0 if it is.

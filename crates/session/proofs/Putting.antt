@@ -1,7 +1,8 @@
 -- One text put behind another is both put as one. Assumes nothing.
-use Rattle.std.proofs.Common.{◌≡◌, ℕ, ◌+◌, ◌-◌, ◌≤◌, List, [], ◌++◌, length, take, drop, sym, refl, ap, ◌∙◌, subst, arith}
+use Rattle.std.proofs.Common.{◌≡◌, ℕ, ◌+◌, ◌-◌, ◌≤◌, List, [], ◌++◌, length, take, drop, refl, ap, ◌∙◌, subst, arith}
 use borrow.Rule.Slice.PartMut.{put_mid}
-use Rattle.std.proofs.lemmas.List.{append_assoc, length-append, length-take-le, length-drop, take_at, drop_at, drop-drop}
+use Rattle.std.proofs.lemmas.List.{append_assoc, length-append, length-take-le, length-drop, take_at, drop-drop}
+use Rattle.std.proofs.lemmas.Slice.{drop-append-drop}
 use Rattle.session.specs.declared.listing.Listing.{Listing}
 use Rattle.session.specs.Appends.{Appends}
 use Rattle.session.specs.Text.{over, Puts}
@@ -21,17 +22,14 @@ copied old at t part h e =
 over_over : (old : List ℕ) (at : ℕ) (t u : List ℕ) → at ≤ length old → over (over old at t) (at + length t) u ≡ over old at (t ++ u)
 unfolding over
 over_over old at t u h =
-    let n : length (take at old ++ t) ≡ at + length t = length-append (take at old) t ∙ ap (λ x. x + length t) (length-take-le at old h) in
-    let rest = drop (at + length t) old in
-    let front = take_at (take at old ++ t) rest (at + length t) n in
-    let back : drop (at + length t + length u) (take at old ++ t ++ rest) ≡ drop (at + length (t ++ u)) old =
-    sym (drop-drop (length u) (at + length t) (take at old ++ t ++ rest))
-    ∙ ap (drop (length u)) (drop_at (take at old ++ t) rest (at + length t) n)
-    ∙ drop-drop (length u) (at + length t) old
-    ∙ ap (λ x. drop x old) (omega (arith, length-append t u)) in
-    ap (λ x. x ++ u ++ drop (at + length t + length u) (take at old ++ t ++ rest)) front
-    ∙ ap (λ x. take at old ++ t ++ u ++ x) back
-    ∙ ap (λ x. x ++ drop (at + length (t ++ u)) old) (append_assoc (take at old) t u)
+    let put = take at old ++ t in
+    let n : length put ≡ at + length t = simp (length-append, length-take-le at old h) in
+    let e : at + length t + length u ≡ at + length (t ++ u) = omega (arith, length-append t u) in
+    rw (
+      take_at put (drop (at + length t) old) (at + length t) n,
+      drop-append-drop (at + length t) old put (at + length t + length u) (omega arith) n,
+      e,
+    ) (ap (λ x. x ++ drop (at + length (t ++ u)) old) (append_assoc (take at old) t u))
 
 joined : {old mid new : List ℕ} {at p q : ℕ} {t u : List ℕ} → Puts old at t mid p → Puts mid p u new q → Puts old at (t ++ u) new q
 joined {old} {mid} {new} {at} {p} {q} {t} {u} a b =

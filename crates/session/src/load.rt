@@ -42,7 +42,7 @@ impl Loader {
         }
     }
 
-    /// Plays a whole session.
+    /// Plays a whole session, from place to place, since how long a record is shows only when it is read.
     pub(crate) fn load_all(&mut self, session: &[u8]) -> Result<(), SessionFault>
         ensures answer { result ≡ (load_all self.old session.now).1 }
         ensures after { self.new ≡ (load_all self.old session.now).0 }
