@@ -35,9 +35,9 @@ impl Listing<'_> {
         requires { Room self.old (length label.now + 4) }
         ensures { Appends self.old (label.now ++ hex4 word) self.new }
     {
-        self.text(label);
-        self.byte(b"", (word / 256) as u8);
-        self.byte(b"", (word % 256) as u8);
+        let [high, low] = word.to_be_bytes();
+        self.byte(label, high);
+        self.byte(b"", low);
     }
 
     /// A number in decimal, behind a label.
