@@ -1,8 +1,7 @@
 -- From a step before its states pass to the whole step, by its answer.
-use Rattle.std.proofs.Common.{◌≡◌, ℕ, Ok, Err, refl, ap, ◌∙◌}
+use Rattle.std.proofs.Common.{◌≡◌, ℕ, Ok, Err, refl, ◌∙◌, subst}
 use Rattle.board.specs.declared.Board.{Ghosts as BoardGhosts}
 use Rattle.panel.specs.declared.Panel.{Ghosts as PanelGhosts}
-use Rattle.panel.specs.Rules.{Rules}
 use Rattle.machine.specs.declared.parts.Machine.{Machine}
 use Rattle.machine.specs.Model.{Model}
 use Rattle.machine.specs.Of.{model_of}
@@ -11,14 +10,18 @@ use Rattle.machine.proofs.Effects.{then}
 use Rattle.cpu.specs.declared.codes.UndefinedCode.{UndefinedCode}
 use Rattle.cpu.specs.Step.{Outcome, counts, stops, outcome, answer, acted, elapsed, stepped, after, ComesTo}
 
-module _ {S : Type 0} (rules : Rules S) where
-  stopped : (o : Outcome S) (m : Model S) (code : UndefinedCode) → Err code ≡ answer o → acted o m ≡ after rules o m
-  stopped (counts n made) m code e = cc
-  stopped (stops c) m code e = refl
+module _ {S : Type 0} where
+  -- what holds of every outcome that stops holds of one whose answer is an undefined code
+  pub stopped : (Holds : Outcome S → Type 0) → ((code : UndefinedCode) → Holds (stops code))
+      → (o : Outcome S) (code : UndefinedCode) → Err code ≡ answer o → Holds o
+  stopped Holds at (counts n made) code e = cc
+  stopped Holds at (stops c) code e = at c
 
-  counted : (o : Outcome S) (m : Model S) (n : ℕ) → Ok n ≡ answer o → elapsed rules n (acted o m) ≡ after rules o m
-  counted (counts k made) m n e = let h : n ≡ k = cc in ap (λ j. elapsed rules j made) h
-  counted (stops c) m n e = cc
+  -- what holds of every outcome that counts n states holds of one whose answer is n
+  pub counted : (n : ℕ) (Holds : Outcome S → Type 0) → ((made : Model S) → Holds (counts n made))
+      → (o : Outcome S) → Ok n ≡ answer o → Holds o
+  counted n Holds at (counts k made) e = let same : n ≡ k = cc in subst (λ j. Holds (counts j made)) same (at made)
+  counted n Holds at (stops c) e = cc
 
 module _ {B P : Type 0} (board : BoardGhosts B) (panel : PanelGhosts P) where
   pub if_stopped : {old new : Machine B P} {code : UndefinedCode}
@@ -26,7 +29,7 @@ module _ {B P : Type 0} (board : BoardGhosts B) (panel : PanelGhosts P) where
   if_stopped {old} {new} {code} comes =
       let m = model_of board panel old in
       record {
-        after = comes.becomes.after ∙ stopped panel.rules (outcome panel.rules m) m code comes.answer;
+        after = comes.becomes.after ∙ stopped (λ o. acted o m ≡ after panel.rules o m) (λ c. refl) (outcome panel.rules m) code comes.answer;
         keeps = comes.becomes.keeps;
       }
 
@@ -37,6 +40,6 @@ module _ {B P : Type 0} (board : BoardGhosts B) (panel : PanelGhosts P) where
       let m = model_of board panel old in
       let done = then board panel comes.becomes passing in
       record {
-        after = done.after ∙ counted panel.rules (outcome panel.rules m) m n comes.answer;
+        after = done.after ∙ counted n (λ o. elapsed panel.rules n (acted o m) ≡ after panel.rules o m) (λ made. refl) (outcome panel.rules m) comes.answer;
         keeps = done.keeps;
       }

@@ -17,7 +17,8 @@ use Rattle.machine.specs.Effects.{Runs}
 use Rattle.machine.proofs.Effects.{then}
 use Rattle.machine.specs.Instructions.{executed}
 use Rattle.cpu.specs.declared.codes.UndefinedCode.{UndefinedCode}
-use Rattle.cpu.specs.Step.{Choice, entry, Outcome, counts, stops, done, outcome, answer, after, stepped}
+use Rattle.cpu.specs.Step.{Choice, entry, done, outcome, answer, after, stepped}
+use Rattle.cpu.proofs.Outcomes.{stopped, counted}
 use Rattle.cpu_laws.specs.Widths.{Fitting}
 use Rattle.cpu_laws.specs.Runs.{stepped_and_returned, entered_and_returned}
 use Rattle.cpu_laws.specs.Laws.{Open, EntryReturns}
@@ -40,14 +41,6 @@ module _ {S : Type 0} (rules : Rules S) where
       subst (λ (c : Choice). (stepped_and_returned rules (done rules c m) m).core.registers ≡ m.core.registers) (sym is)
       (level_returned level m fits first second third)
 
-  stopped : (o : Outcome S) (m : Model S) (code : UndefinedCode) → Err code ≡ answer o → after rules o m ≡ stepped_and_returned rules o m
-  stopped (counts n made) m code e = cc
-  stopped (stops c) m code e = refl
-
-  counted : (o : Outcome S) (m : Model S) (n : ℕ) → Ok n ≡ answer o → executed rules (family.Jump Reti) (after rules o m) ≡ stepped_and_returned rules o m
-  counted (counts k made) m n e = refl
-  counted (stops c) m n e = cc
-
 -- from a step to the run, by its answer
 module _ {B P : Type 0} (board : BoardGhosts B) (panel : PanelGhosts P) where
   pub if_stopped : {old new : Machine B P} {code : UndefinedCode}
@@ -55,7 +48,7 @@ module _ {B P : Type 0} (board : BoardGhosts B) (panel : PanelGhosts P) where
       → Runs board panel (entered_and_returned panel.rules) old new
   if_stopped {old} {new} {code} step answered =
       let m = model_of board panel old in
-      record { after = step.after ∙ stopped panel.rules (outcome panel.rules m) m code answered; keeps = step.keeps }
+      record { after = step.after ∙ stopped (λ o. after panel.rules o m ≡ stepped_and_returned panel.rules o m) (λ c. refl) (outcome panel.rules m) code answered; keeps = step.keeps }
 
   pub if_counted : {old new later : Machine B P} {n : ℕ}
       → Runs board panel (stepped panel.rules) old new → Ok n ≡ answer (outcome panel.rules (model_of board panel old))
@@ -63,4 +56,4 @@ module _ {B P : Type 0} (board : BoardGhosts B) (panel : PanelGhosts P) where
   if_counted {old} {new} {later} {n} step answered reti =
       let m = model_of board panel old in
       let done = then board panel step reti in
-      record { after = done.after ∙ counted panel.rules (outcome panel.rules m) m n answered; keeps = done.keeps }
+      record { after = done.after ∙ counted n (λ o. executed panel.rules (family.Jump Reti) (after panel.rules o m) ≡ stepped_and_returned panel.rules o m) (λ made. refl) (outcome panel.rules m) answered; keeps = done.keeps }

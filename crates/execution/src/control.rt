@@ -1,4 +1,5 @@
 // Tests that skip, and the modes of the core.
+// A function takes the part that it changes, registers, core or machine: the borrow says that the rest stays.
 ghost use Rattle.std.specs.Prelude.{◌≡◌};
 ghost use Rattle.machine.specs.Registers.{with_skip};
 ghost use Rattle.machine.specs.Control.{bit_tested, flag_in, line_tested, enabled as ei_executed};
