@@ -1,4 +1,4 @@
--- What a code names has that code: each operand is the one that its code names.
+-- Each operand is the one that its code names.
 use Rattle.std.specs.Prelude.{◌≡◌, refl}
 use Rattle.alu.specs.Naming.{operation_code}
 use Rattle.alu.specs.declared.operation.Operation.{Operation}

@@ -4,7 +4,6 @@ use Rattle.std.specs.Prelude.{ℕ}
 use Rattle.registers.specs.declared.bank.ByteRegister.TheVariants as byte
 use Rattle.registers.specs.declared.file.Registers.{Registers}
 use Rattle.board.specs.Cells.{Cells}
-pub use Rattle.isa.specs.Operands.{r2_register}
 use Rattle.isa.specs.declared.operands.R1.{R1}
 use Rattle.isa.specs.declared.operands.R1.TheVariants as r1
 use Rattle.isa.specs.declared.operands.Rp.{Rp}

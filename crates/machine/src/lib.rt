@@ -4,6 +4,5 @@
 mod parts;
 mod words;
 
-pub use isa::{Arithmetic, Control, Jump, Special, Transfer};
 pub use parts::Machine;
 pub use words::WordRegister;

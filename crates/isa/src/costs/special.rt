@@ -1,4 +1,4 @@
-// What what goes to and from special registers costs.
+// What transfers and operations on special registers cost.
 ghost use Rattle.isa.specs.Costs.{special_cost};
 
 use crate::costs::Costs;
