@@ -1,10 +1,10 @@
 -- Records in order of their numbers, and which of them are due. Assumes nothing.
-use Rattle.std.proofs.Common.{◌≡◌, ℕ, zero, suc, ◌+◌, ◌-◌, ◌<◌, ◌≤◌, Bool, false, cond, ◌&&◌, ◌||◌, ltb, leb, List, [], ◌∷◌, get_or, take, drop, sym, refl, ap, ◌∙◌, subst, inl, inr, arith}
+use Rattle.std.proofs.Common.{◌≡◌, ℕ, zero, suc, ◌+◌, ◌-◌, ◌<◌, ◌≤◌, Bool, false, cond, ◌&&◌, ◌||◌, ltb, leb, List, [], ◌∷◌, length, get_or, take, drop, sym, refl, ap, ◌∙◌, subst, inl, inr, arith}
 use Rattle.std.proofs.Math.Numerals.{one-add}
 use Rattle.std.specs.List.{prefix_len}
-use Rattle.std.proofs.lemmas.List.Sums.{prefix_len-le-length, prefix_len_passes, prefix_len_stops}
+use Rattle.std.proofs.lemmas.List.Sums.{prefix_len-le-length, prefix_len_passes, prefix_len_stops, prefix_len-drop_no, prefix_len-drop_all}
 use Rattle.std.proofs.lemmas.List.{length-drop, get_or-drop}
-use Rattle.std.proofs.lemmas.Bool.{cases_lt, lt-leb, le-leb, leb-true, leb-false}
+use Rattle.std.proofs.lemmas.Bool.{cases_lt, lt-ltb, lt-leb, le-leb, leb-true, leb-false}
 use Rattle.std.proofs.lemmas.Bool.Decides.{nat_tests}
 use Rattle.panel.specs.declared.schedule.Due.{Due}
 use Rattle.panel.specs.Places.{InOrder, Gone, Coming, lines_in, due_in, no_record}
@@ -52,6 +52,14 @@ due_from (d ∷ ds) (suc place) clock until line order gone later =
     let rest = due_from ds place clock until line (λ i j h g. order (suc i) (suc j) (omega arith) (omega arith))
     (omega (arith, gone.0), λ k h. gone.1 (suc k) (omega arith)) (λ k h g. later (suc k) (omega arith) (omega arith)) in
     grind (arith, nat_tests)
+
+-- none where the next is still to come, or there is no next
+pub none_next : (ds : List Due) (place until : ℕ) → (ltb place (length ds) && leb (get_or ds place no_record).at until) ≡ false
+    → prefix_len (by until) (drop place ds) ≡ 0
+none_next ds place until h = elim (cases_lt place (length ds)) [
+  | inl there ↦ prefix_len-drop_no (by until) ds place no_record there (sym (ap (λ b. b && leb (get_or ds place no_record).at until) (lt-ltb place (length ds) there)) ∙ h)
+  | inr past ↦ prefix_len-drop_all (by until) ds place past
+]
 
 -- the place after those records
 module _ (ds : List Due) (place clock until : ℕ) (gone : Gone ds place clock) (on : clock ≤ until) where

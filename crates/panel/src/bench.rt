@@ -3,6 +3,7 @@ use crate::schedule::Schedule;
 
 pub(crate) mod methods;
 
+// Contracts see it through `bench_of`, in which the schedule is a function, as no model's value can be.
 #[derive(Drop)]
 pub struct BenchPanel {
     bytes: [u8; 64],

@@ -1,9 +1,9 @@
 // A schedule of records, and the clock that goes through it.
-ghost use Rattle.std.specs.Prelude.{◌≡◌, ◌+◌, ◌≤◌, min, nat_le, nat_lt, drop};
+ghost use Rattle.std.specs.Prelude.{◌≡◌, ◌+◌, ◌≤◌, ◌&&◌, length, min, nat_le, nat_lt, slice_index_or};
 ghost use Rattle.std.specs.List.{prefix_len};
 ghost use Rattle.lines.specs.Of.{lines_of};
 ghost use Rattle.panel.specs.Bench.{last_number};
-ghost use Rattle.panel.specs.Places.{InOrder, Gone, Coming, lines_in, due_in};
+ghost use Rattle.panel.specs.Places.{InOrder, Gone, Coming, lines_in, due_in, no_record};
 ghost use Rattle.panel.specs.Schedule.{scheduled};
 
 use lines::{Line, Lines};
@@ -63,12 +63,11 @@ impl Schedule {
 
     // Whether the next record's number is at most this one.
     fn is_due(&self, until: u32) -> bool
-        ensures { result ≡ nat_lt 0 (prefix_len (λ due. nat_le due.at until) (drop self.now.next self.now.records.items)) }
+        ensures { result ≡ (nat_lt self.now.next (length self.now.records.items) && nat_le (slice_index_or self.now.records.items self.now.next no_record).at until) }
     {
-        match self.records.get(self.next) {
-            Some(due) => due.at <= until,
-            None => false,
-        }
+        self.records
+            .get(self.next)
+            .is_some_and(|due| due.at <= until)
     }
 
     // Passes the records up to a number, and answers their lines.

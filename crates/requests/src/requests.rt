@@ -9,6 +9,7 @@ use lines::Lines;
 mod changes;
 mod reads;
 
+// Contracts see them through `requests_of`, a function from numbers, which a model's value cannot be.
 // The marks stand apart from the tallies as a set of bits, so that a step's pick is one test while nothing waits.
 #[derive(Clone, Copy)]
 pub struct Requests {
