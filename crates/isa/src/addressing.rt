@@ -5,6 +5,7 @@ ghost use Rattle.isa.specs.Costs.{rpa2_takes_byte, rpa3_takes_byte, rpa2_adds, r
 
 use crate::operands::{Rpa2, Rpa3};
 
+// Each impl is the table of its own type: the two name different addressings.
 pub(crate) trait Addressing {
     ghost with_byte: { Self → Bool };
 

@@ -14,7 +14,7 @@ mod rp3;
 mod rpa2;
 mod rpa3;
 
-// What an opcode names by a few of its bits.
+// What an opcode names by a few of its bits. Each impl is the table of its own type: their rows name different things.
 pub(crate) trait Operand {
     // What its codes are below.
     ghost limit: { ℕ };

@@ -30,6 +30,7 @@ trait Costs {
         ensures bound { (4 ≤ result) × (result ≤ 14) };
 }
 
+// Three methods and no struct of the three numbers: a step asks for one or two of them.
 impl Instruction {
     /// Its bytes, 1 to 4.
     pub fn length(self) -> u8

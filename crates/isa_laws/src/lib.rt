@@ -38,6 +38,7 @@ pub fn is_code_of(instruction: Instruction, first: u8, second: u8) -> bool
     begins_with(instruction.encode(), first, second)
 }
 
+// One match over the three cases; `is_some_and` would put a second match into the first.
 fn begins_with(opcode: Option<Opcode>, first: u8, second: u8) -> bool
     ensures { result ≡ begins opcode first second }
 {
