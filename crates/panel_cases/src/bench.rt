@@ -6,6 +6,7 @@ use std::alloc::Global;
 use std::process::Abort;
 use std::test::Fail;
 
+// The timers have a `shows` of their own: handing over whom to ask would make each case longer.
 fn shows(rt: &impl Abort, heap: Global, calls: &[Call], code: u8, byte: u8) {
     let (shown, _) = bench_answers(Vec::new(heap), calls, code, 0);
     assert_eq!(rt; shown, byte);

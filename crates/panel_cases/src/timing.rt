@@ -116,6 +116,7 @@ fn lengths(rt: HostRuntime) {
     counts(&rt, heap, TIMER0_EVERY_4, 15, 0, 1, u32::MAX, &[Line::Ft0]);
 }
 
+// The bench panel has a `shows` of its own: handing over whom to ask would make each case longer.
 fn shows(rt: &impl Abort, heap: Global, calls: &[Call], code: u8, byte: u8) {
     let (shown, _) = timers_answers(Vec::new(heap), calls, code, 0);
     assert_eq!(rt; shown, byte);
