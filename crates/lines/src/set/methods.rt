@@ -57,11 +57,14 @@ impl Lines {
         }
     }
 
-    // The highest interrupt level with a line in the set, which is that of the lowest line.
+    // The highest interrupt level with a line in the set, which is that of the lowest line. Nearly always there is none, so that is tested first.
     pub fn level(self) -> Option<Level>
         ensures value { result ≡ highest_of (lines_of self) }
         ensures number { option_map level_number result ≡ level_of (lines_of self) }
     {
+        if self.is_empty() {
+            return None;
+        }
         match self.bits.trailing_zeros() {
             0 => Some(Level::Nmi),
             1 | 2 => Some(Level::Timer),
