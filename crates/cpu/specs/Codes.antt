@@ -1,8 +1,7 @@
 -- The code that stands at an address.
-use Rattle.std.specs.Prelude.{ℕ, true, Ok, Err, Result, List, ◌++◌, codes}
+use Rattle.std.specs.Prelude.{ℕ, true, List, ◌++◌, codes}
 use Rattle.std.specs.Fmt.{digits}
 use Rattle.board.specs.Cells.{Cells}
-use Rattle.isa.specs.declared.instructions.Instruction.{Instruction}
 use Rattle.isa.specs.declared.decoding.Undefined.{Undefined}
 use Rattle.isa.specs.declared.decoding.Undefined.TheVariants.{First, Second}
 use Rattle.isa.specs.Decoding.{Decoded, decoded}
@@ -21,14 +20,6 @@ code_here m = code_at m.cells m.core.registers.pc
 abbrev pub undefined_at : Cells → ℕ → Undefined → UndefinedCode
 undefined_at cells address First = record { address = address; first = cells.at address; second = 0 }
 undefined_at cells address Second = record { address = address; first = cells.at address; second = cells.at (past address 1) }
-
--- the instruction that stands at an address, or the undefined code
-abbrev pub told_at : Cells → ℕ → Decoded → Result Instruction UndefinedCode
-told_at cells address (Ok i) = Ok i
-told_at cells address (Err decided) = Err (undefined_at cells address decided)
-
-abbrev pub fetched : Cells → ℕ → Result Instruction UndefinedCode
-fetched cells address = told_at cells address (code_at cells address)
 
 -- what is said of an undefined code
 abbrev pub undefined_text : UndefinedCode → List ℕ

@@ -1,6 +1,6 @@
 // The code that stands at an address.
 ghost use Rattle.std.specs.Prelude.{◌≡◌, Some};
-ghost use Rattle.cpu.specs.Codes.{fetched, undefined_text};
+ghost use Rattle.cpu.specs.Codes.{code_at, undefined_at, undefined_text};
 
 use board::Board;
 use isa::{Instruction, Undefined, decode};
@@ -29,18 +29,27 @@ impl fmt::Display for UndefinedCode {
 
 impl Error for UndefinedCode {}
 
+// What stands there, or which byte makes it undefined. The code is named by the caller: a longer error would make every fetch slower.
 #[tactic(auto, unfolding(crate::specs::Codes::code_at))]
-pub(crate) fn fetch<B: Board>(board: &B, address: u16) -> Result<Instruction, UndefinedCode>
-    ensures { result ≡ fetched (B.Board.cells board.now) address }
+pub(crate) fn fetch<B: Board>(board: &B, address: u16) -> Result<Instruction, Undefined>
+    ensures { result ≡ code_at (B.Board.cells board.now) address }
 {
     let first = board.read(address);
     let second = board.read(address.wrapping_add(1));
-    decode(first, second).map_err(|decided| UndefinedCode {
+    decode(first, second)
+}
+
+pub(crate) fn undefined_code<B: Board>(board: &B, address: u16, decided: Undefined) -> UndefinedCode
+    ensures { result ≡ undefined_at (B.Board.cells board.now) address decided }
+{
+    let first = board.read(address);
+    let second = match decided {
+        Undefined::First => 0,
+        Undefined::Second => board.read(address.wrapping_add(1)),
+    };
+    UndefinedCode {
         address,
         first,
-        second: match decided {
-            Undefined::First => 0,
-            Undefined::Second => second,
-        },
-    })
+        second,
+    }
 }

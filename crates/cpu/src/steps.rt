@@ -5,7 +5,7 @@ ghost use Rattle.machine.specs.Effects.{Runs};
 ghost use Rattle.cpu.specs.Codes.{code_here};
 ghost use Rattle.cpu.specs.Step.{idled, passed_over, skipping, executing, outcome, answer, elapsed, stepped, Counted, ComesTo};
 
-use crate::codes::{UndefinedCode, fetch};
+use crate::codes::{UndefinedCode, fetch, undefined_code};
 use crate::entry::enter;
 use crate::pick::{Mode, is_open, mode_with, pick};
 use board::Board;
@@ -62,7 +62,12 @@ fn act<B: Board, P: Panel>(machine: &mut Machine<B, P>) -> Result<u8, UndefinedC
 fn run<B: Board, P: Panel>(machine: &mut Machine<B, P>) -> Result<u8, UndefinedCode>
     ensures { ComesTo B.Board P.Panel (λ m. executing P.Panel.rules (code_here m) m) result machine.old machine.new }
 {
-    let instruction = fetch(&machine.board, machine.core.registers.pc)?;
+    let pc = machine.core.registers.pc;
+    let instruction = fetch(&machine.board, pc).map_err(|decided| undefined_code(
+        &machine.board,
+        pc,
+        decided,
+    ))?;
     execute(machine, instruction);
     Ok(instruction.states())
 }
@@ -71,7 +76,12 @@ fn run<B: Board, P: Panel>(machine: &mut Machine<B, P>) -> Result<u8, UndefinedC
 fn skip<B: Board, P: Panel>(machine: &mut Machine<B, P>) -> Result<u8, UndefinedCode>
     ensures { ComesTo B.Board P.Panel (λ m. skipping (code_here m) m) result machine.old machine.new }
 {
-    let instruction = fetch(&machine.board, machine.core.registers.pc)?;
+    let pc = machine.core.registers.pc;
+    let instruction = fetch(&machine.board, pc).map_err(|decided| undefined_code(
+        &machine.board,
+        pc,
+        decided,
+    ))?;
     pass_over(&mut machine.core, instruction.length());
     Ok(instruction.skipped())
 }
