@@ -13,7 +13,7 @@ use crate::shifts::{shift_ea, shift_register, shift_register_and_skip};
 use alu::{Count, Operation, Shift, rotate_digits_left, rotate_digits_right};
 use board::Board;
 use isa::Arithmetic;
-use operands::step;
+use operands::{step_down, step_up};
 use registers::bank::ByteRegister;
 use registers::file::Registers;
 
@@ -45,8 +45,8 @@ pub fn compute<B: Board>(registers: &mut Registers, board: &mut B, instruction: 
         Arithmetic::Dcr(r2) => count_register(registers, Count::Down, r2.into()),
         Arithmetic::Inrw => count_working(registers, board, Count::Up),
         Arithmetic::Dcrw => count_working(registers, board, Count::Down),
-        Arithmetic::Inx(rp2) => step(registers, rp2.into(), 1),
-        Arithmetic::Dcx(rp2) => step(registers, rp2.into(), -1),
+        Arithmetic::Inx(rp2) => step_up(registers, rp2.into(), 1),
+        Arithmetic::Dcx(rp2) => step_down(registers, rp2.into()),
         Arithmetic::Daa => adjust_a(registers),
         Arithmetic::Stc => registers.flags.carry = true,
         Arithmetic::Clc => registers.flags.carry = false,

@@ -1,7 +1,7 @@
 // The places in memory that rpa2 names, and what their use makes of the pairs.
 // Registers and board are two parameters: `&` and `&mut` say which of them a function changes.
 ghost use Rattle.std.specs.Prelude.{◌≡◌};
-ghost use Rattle.machine.specs.Words.{jumped};
+ghost use Rattle.machine.specs.Words.{past, back};
 ghost use Rattle.machine.specs.Operands.{word_in, with_word, rpa2_place, rpa2_used};
 
 use crate::memory::data_byte;
@@ -32,19 +32,27 @@ pub fn use_rpa2(registers: &mut Registers, place: Rpa2)
     ensures { registers.new ≡ rpa2_used place registers.old }
 {
     match place {
-        Rpa2::DeUp => step(registers, WordRegister::De, 1),
-        Rpa2::HlUp => step(registers, WordRegister::Hl, 1),
-        Rpa2::DeDown => step(registers, WordRegister::De, -1),
-        Rpa2::HlDown => step(registers, WordRegister::Hl, -1),
+        Rpa2::DeUp => step_up(registers, WordRegister::De, 1),
+        Rpa2::HlUp => step_up(registers, WordRegister::Hl, 1),
+        Rpa2::DeDown => step_down(registers, WordRegister::De),
+        Rpa2::HlDown => step_down(registers, WordRegister::Hl),
         Rpa2::Bc | Rpa2::De | Rpa2::Hl | Rpa2::DeByte => {}
         Rpa2::HlA | Rpa2::HlB | Rpa2::HlEa | Rpa2::HlByte => {}
     }
 }
 
-/// A word goes up, or down by a negative number.
-pub fn step(registers: &mut Registers, which: WordRegister, by: i16)
-    ensures { registers.new ≡ with_word which (jumped (word_in which registers.old) by) registers.old }
+/// A word goes up. Apart from going down, since a signed number does not go up by every word.
+pub fn step_up(registers: &mut Registers, which: WordRegister, by: u16)
+    ensures { registers.new ≡ with_word which (past (word_in which registers.old) by) registers.old }
 {
     let word = get_word(registers, which);
-    set_word(registers, which, word.wrapping_add_signed(by));
+    set_word(registers, which, word.wrapping_add(by));
+}
+
+/// A word goes down by one.
+pub fn step_down(registers: &mut Registers, which: WordRegister)
+    ensures { registers.new ≡ with_word which (back (word_in which registers.old) 1) registers.old }
+{
+    let word = get_word(registers, which);
+    set_word(registers, which, word.wrapping_sub(1));
 }

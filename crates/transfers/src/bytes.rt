@@ -10,7 +10,8 @@ use board::Board;
 use isa::{R1, Rpa2};
 use machine::WordRegister;
 use operands::{
-    data_byte, data_bytes, get_word, read_data_word, rpa2_address, step, use_rpa2, working_address,
+    data_byte, data_bytes, get_word, read_data_word, rpa2_address, step_up, use_rpa2,
+    working_address,
 };
 use registers::bank::ByteRegister;
 use registers::file::Registers;
@@ -141,8 +142,8 @@ fn advance_block(registers: &mut Registers)
     ensures { registers.new ≡ block_moved registers.old }
 {
     let borrows = registers.main.c == 0;
-    step(registers, WordRegister::De, 1);
-    step(registers, WordRegister::Hl, 1);
+    step_up(registers, WordRegister::De, 1);
+    step_up(registers, WordRegister::Hl, 1);
     registers.main.c = registers.main.c.wrapping_sub(1);
     registers.flags.carry = borrows;
     if !borrows {

@@ -8,7 +8,7 @@ ghost use Rattle.machine.specs.Operands.{rpa3_place, rpa3_used};
 use board::Board;
 use isa::Rpa3;
 use machine::WordRegister;
-use operands::{data_byte, get_word, step};
+use operands::{data_byte, get_word, step_up};
 use registers::file::Registers;
 
 // Not by way of rpa2: naming the addressing of a byte at the same place takes as many arms as finding the place.
@@ -32,8 +32,8 @@ pub(crate) fn use_rpa3(registers: &mut Registers, place: Rpa3)
     ensures { registers.new ≡ rpa3_used place registers.old }
 {
     match place {
-        Rpa3::DeUpTwo => step(registers, WordRegister::De, 2),
-        Rpa3::HlUpTwo => step(registers, WordRegister::Hl, 2),
+        Rpa3::DeUpTwo => step_up(registers, WordRegister::De, 2),
+        Rpa3::HlUpTwo => step_up(registers, WordRegister::Hl, 2),
         Rpa3::De | Rpa3::Hl | Rpa3::DeByte | Rpa3::HlA => {}
         Rpa3::HlB | Rpa3::HlEa | Rpa3::HlByte => {}
     }
