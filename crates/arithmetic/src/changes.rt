@@ -23,7 +23,7 @@ pub(crate) fn change_register<F: FnOnce(u8, &mut Flags) -> u8>(
     registers.main.set(register, value);
 }
 
-/// RLD and RRD: the digits of A and of the cell at HL.
+/// RLD and RRD: the digits of A and of the cell at HL. Its clauses are not one `Acts`, which is for an operation that is known.
 pub(crate) fn turn_cell<B: Board, F: FnOnce(u8, &mut u8) -> u8>(
     registers: &mut Registers,
     board: &mut B,

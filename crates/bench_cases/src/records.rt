@@ -112,7 +112,7 @@ fn a_page_is_that_part_of_the_session(rt: HostRuntime) -> Result<(), Fail> {
     Ok(())
 }
 
-/// Why a record is not read, by its number; 0 if it is.
+/// Why a record is not read, by its number; 0 if it is, so that a case is two numbers.
 fn fault_at(session: &[u8], offset: usize) -> u8 {
     Record::read(session, offset)
         .err()

@@ -7,6 +7,7 @@ ghost use Rattle.std.proofs.Common.{rules};
 use crate::{ABSENT, Board};
 
 /// A memory that begins at address 0. Addresses that it does not reach hold FFH and are fixed; bytes past the last address are unused.
+/// Contracts see it through `flat_of`: its cells are a function of the address, which a model's value cannot be.
 #[derive(Drop)]
 pub struct FlatBoard {
     memory: Vec<u8>,

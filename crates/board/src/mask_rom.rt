@@ -13,6 +13,7 @@ const ROM_SIZE: usize = 0x1000;
 const RAM_START: usize = 0xff00;
 
 /// A ROM image, whose bytes past 4,096 are unused, and 256 bytes of RAM at FF00H to FFFFH. All else holds FFH; all but RAM is fixed.
+/// Contracts see it through `mask_rom_of`, a function as `flat_of` is.
 #[derive(Drop)]
 pub struct MaskRomBoard {
     rom: Vec<u8>,

@@ -7,7 +7,7 @@ use isa::{Instruction, Undefined, decode};
 use std::error::Error;
 use std::fmt;
 
-/// An undefined code: where it stands, and its two bytes. The second is 00 if the first alone is undefined.
+/// An undefined code: where it stands, and its two bytes. The second is 00 if the first alone is undefined, and no `Option`: so it is listed.
 #[derive(Clone, Copy, PartialEq, Eq, Debug)]
 pub struct UndefinedCode {
     pub address: u16,

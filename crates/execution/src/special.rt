@@ -13,6 +13,7 @@ use machine::Machine;
 use operands::data_byte;
 use panel::Panel;
 
+// Codes and no enum: the panel has the other 62 by their numbers, and takes any.
 const MKH: u8 = 6;
 
 const MKL: u8 = 7;

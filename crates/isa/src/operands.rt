@@ -117,7 +117,6 @@ pub enum Flag {
     Zero = 4,
 }
 
-// Each operand names registers of its own, so each has a conversion of its own.
 impl From<R2> for ByteRegister {
     ghost from_gives = { λ r2 register. register ≡ r2_register r2 };
 

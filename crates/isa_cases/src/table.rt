@@ -38,6 +38,7 @@ fn cost(letter: u8) -> (u8, u8, u8) {
     }
 }
 
+// An undefined code counts nothing, as its letter says.
 fn found(first: u8, second: u8) -> (u8, u8, u8) {
     decode(first, second).map_or((0, 0, 0), |instruction| {
         (

@@ -1,5 +1,5 @@
 -- The lines and their numbers.
-use Rattle.std.specs.Prelude.{◌≡◌, ℕ, ◌<◌, ◌≤◌, cond, Some, None, Option, Result, MatchResult, ◌==◌}
+use Rattle.std.specs.Prelude.{◌≡◌, ℕ, ◌<◌, ◌≤◌, cond, Some, None, Option, Result, MatchResult, List, ◌++◌, decimal, codes, ◌==◌}
 use Rattle.lines.specs.declared.line.Line.{Line}
 use Rattle.lines.specs.declared.line.NoSuchLine.{NoSuchLine}
 use Rattle.lines.specs.declared.line.Line.TheVariants.{Nmi, Ft0, Ft1, F1, F2, Fe0, Fe1, Fein, Fad, Fsr, Fst}
@@ -28,3 +28,7 @@ line_at n =
 -- the line that has this number, or an error with a number that no line has
 abbrev pub IsLine : ℕ → Result Line NoSuchLine → Type 0
 IsLine n r = MatchResult r (λ line. (line_at n ≡ Some line) × (number_of line ≡ n) × (n < 11)) (λ e. (line_at n ≡ None) × (e.0 ≡ n) × (11 ≤ n))
+
+-- what is said of a number that no line has
+abbrev pub refusal : ℕ → List ℕ
+refusal n = codes "no line has number " ++ decimal n

@@ -35,7 +35,7 @@ fn one_of(first: Line, second: Line, masks: u16) -> Option<Line>
 }
 
 impl Level {
-    // 0 for NMI, then 1 to 5 for the pairs.
+    // 0 for NMI, then 1 to 5 for the pairs. A method as `Line::number` is.
     pub fn number(self) -> u8
         ensures value { result ≡ level_number self }
         ensures bound { result < 6 }

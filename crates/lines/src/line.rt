@@ -1,6 +1,6 @@
 // The eleven interrupt lines by the chip's names, and their numbers.
 ghost use Rattle.std.specs.Prelude.{◌≡◌, ◌<◌, Some};
-ghost use Rattle.lines.specs.Numbers.{number_of, line_at, IsLine};
+ghost use Rattle.lines.specs.Numbers.{number_of, line_at, IsLine, refusal};
 ghost use Rattle.lines.specs.Sets.{bit};
 
 use std::error::Error;
@@ -41,7 +41,7 @@ impl Line {
         Line::Fst,
     ];
 
-    // From 0 for NMI to 10 for FST. A number, since it is a place in an array and a shift.
+    // From 0 for NMI to 10 for FST. A method, since as a place in an array and as a shift it should say what it counts.
     pub fn number(self) -> u8
         ensures value { result ≡ number_of self }
         ensures bound { result < 11 }
@@ -82,6 +82,8 @@ impl TryFrom<u8> for Line {
 }
 
 impl fmt::Display for NoSuchLine {
+    ghost output = { λ e. Some (refusal e.0) };
+
     fn fmt<W: fmt::Write>(&self, f: &mut fmt::Formatter<W>) -> fmt::Result {
         write!(f, "no line has number {}", self.0)
     }

@@ -9,6 +9,7 @@ use registers::bench::Core;
 use requests::Requests;
 
 /// A core with the memory around it, its special registers, and the marks and tallies of its interrupt lines.
+/// Contracts see it through `model_of`: a model's value cannot be made of what bounds say, as cells and standing are.
 #[derive(Drop)]
 pub struct Machine<B, P> {
     pub core: Core,

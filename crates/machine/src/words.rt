@@ -15,7 +15,7 @@ pub enum WordRegister {
     Sp,
 }
 
-// Each operand names words of its own, so each has a conversion of its own.
+// Four types of operands, and so four conversions: a variant of one type says nothing of a variant of another.
 impl From<Rp> for WordRegister {
     ghost from_gives = { λ rp word. word ≡ rp_word rp };
 

@@ -41,7 +41,7 @@ pub fn use_rpa2(registers: &mut Registers, place: Rpa2)
     }
 }
 
-/// A word goes up. Apart from going down, since a signed number does not go up by every word.
+/// A word goes up. Going down is a function of its own: by 65,535 this one would do it, and nobody would read it so.
 pub fn step_up(registers: &mut Registers, which: WordRegister, by: u16)
     ensures { registers.new ≡ with_word which (past (word_in which registers.old) by) registers.old }
 {

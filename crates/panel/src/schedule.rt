@@ -8,7 +8,7 @@ ghost use Rattle.panel.specs.Schedule.{scheduled};
 
 use lines::{Line, Lines};
 
-// A line that rises when the clock moves to a number. Lines above 10 never do.
+// A line that rises when the clock moves to a number. A number and no `Line`, since lines above 10 may stand here, and never rise.
 #[derive(Clone, Copy, PartialEq, Eq, PartialOrd, Ord)]
 pub struct Due {
     pub at: u32,

@@ -17,7 +17,7 @@ pub enum RecordFault {
 }
 
 impl RecordFault {
-    /// The refusal's number, by which a listing names it; its text is what it displays.
+    /// The refusal's number, by which a listing names it. A method, since `u8::from(fault)` would not say what the byte counts.
     pub fn number(self) -> u8
         ensures { result ≡ fault_number self }
     {

@@ -47,6 +47,7 @@ fn write_at_start(record: &Record<'_>, buffer: &mut [u8]) -> Result<usize, Recor
     }
 }
 
+/// The two refusals of a page are one test, and the bytes go straight into the buffer, not by way of a joined body.
 fn put_page(buffer: &mut [u8], number: u8, bytes: &[u8]) -> Result<usize, RecordFault>
     ensures answer { result ≡ write_answer (page number bytes.now) buffer.old }
     ensures after { buffer.new ≡ write_over (page number bytes.now) buffer.old }
@@ -60,7 +61,7 @@ fn put_page(buffer: &mut [u8], number: u8, bytes: &[u8]) -> Result<usize, Record
     Ok(258)
 }
 
-/// Puts bytes at the start of a buffer that has room for them.
+/// Puts bytes at the start of a buffer that has room for them. A test and no `get_mut`, behind which the refusal and the copy are the same two steps.
 fn put(buffer: &mut [u8], bytes: &[u8]) -> Result<usize, RecordFault>
     ensures answer { result ≡ put_answer bytes.now buffer.old }
     ensures after { buffer.new ≡ put_over bytes.now buffer.old }

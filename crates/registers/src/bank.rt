@@ -15,7 +15,7 @@ pub enum ByteRegister {
 }
 
 impl ByteRegister {
-    /// The register that the low three bits of a code name; a method by name, since a `From` would not say that the others are left out.
+    /// The register that the low three bits of a byte name. A method, since an opcode holds more than that code, so that the byte as a whole is no register.
     pub fn of_code(code: u8) -> ByteRegister
         ensures { result ≡ byte_register (code % 8) }
     {

@@ -16,7 +16,7 @@ pub enum RegisterFault {
 }
 
 impl RegisterFault {
-    /// The refusal's number; a method by name, since `u8::from(fault)` would not say what the byte counts.
+    /// The refusal's number. A method, since `u8::from(fault)` would not say what the byte counts.
     pub fn number(self) -> u8
         ensures { result ≡ fault_number self }
     {

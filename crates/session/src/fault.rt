@@ -63,7 +63,7 @@ impl From<At<RecordFault>> for SessionFault {
 }
 
 impl SessionFault {
-    /// The refusal's number: the register's or the record's own, by which a fault's line names it beside its place.
+    /// The refusal's number: the register's or the record's own. A method, since `u8::from(fault)` would not say what the byte counts.
     pub fn number(self) -> u8
         ensures { result ≡ session_number self }
     {

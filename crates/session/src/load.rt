@@ -122,7 +122,7 @@ fn store_byte(memory: &mut Vec<u8>, address: usize, byte: u8)
     }
 }
 
-/// Puts a page's bytes into memory, by a loop with an index over them, since each goes where its index says and past the end none does.
+/// Puts a page's bytes into memory: a loop with an index over them, as is a rule of the project (DECISIONS, "Forms").
 fn store_page(memory: &mut Vec<u8>, page: u8, bytes: &[u8])
     ensures { memory.new.items ≡ stored memory.old.items (256 * page) bytes.now }
 {

@@ -15,7 +15,7 @@ pub const ROOM: usize = 2048;
 pub const LONGEST: usize = 16384;
 
 /// What playing a session comes to: the memory, how much was written at the start of the listing, and the fault.
-/// The memory comes back after a fault too, and a fault has a line as the sheet has its lines, so this is no `Result`.
+/// Memory and length are there after a fault too, since a fault has a line as a core has its sheet, so this is no `Result`.
 #[derive(Drop)]
 pub struct Outcome {
     pub memory: Vec<u8>,

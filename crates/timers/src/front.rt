@@ -10,6 +10,7 @@ use crate::register::Register;
 use lines::Lines;
 use panel::{Panel, code_of, states_of};
 
+// Contracts see it through `timers_of`: a model's value cannot be made of what a bound says, as the standing of the panel behind is.
 #[derive(Drop)]
 pub struct Timers<P> {
     pair: TimerPair,

@@ -13,6 +13,7 @@ use crate::register::Register;
 use crate::timer::Timer;
 use lines::{Line, Lines};
 
+// Contracts see it through `timing_of`, which rests on `count_of`, and so is no model either.
 #[derive(Clone, Copy)]
 pub(crate) struct TimerPair {
     tmm: u8,
