@@ -67,7 +67,7 @@ impl fmt::Display for NoSuchOperation {
 impl Error for NoSuchOperation {}
 
 impl Operation {
-    /// The operation's code, 1 to 15.
+    /// The operation's code, 1 to 15. A method, since `u8::from(operation)` would not say what the byte counts.
     pub fn code(self) -> u8
         ensures value { result ≡ operation_code self }
         ensures bound { result < 16 }
