@@ -1,6 +1,7 @@
 // The operations by code, and which store.
 use alu::{NoSuchOperation, Operation};
 use std::process::Abort;
+use std::test::Fail;
 
 fn hold(rt: &impl Abort, cases: &[(u8, Operation, bool)]) {
     for (code, operation, stores) in cases {
@@ -39,4 +40,11 @@ fn no_operation(rt: HostRuntime) {
     assert_eq!(rt; Operation::try_from(0), Err(NoSuchOperation(0)));
     assert_eq!(rt; Operation::try_from(16), Err(NoSuchOperation(16)));
     assert_eq!(rt; Operation::try_from(255), Err(NoSuchOperation(255)));
+}
+
+#[test]
+fn a_code_without_an_operation_prints(rt: HostRuntime) -> Result<(), Fail> {
+    let text = format!(in rt.alloc(); "{}", NoSuchOperation(16))?;
+    assert_eq!(rt; text.as_str(), "no operation has code 16");
+    Ok(())
 }

@@ -9,3 +9,5 @@ mod records;
 mod registers_by_number;
 #[cfg(test)]
 mod sessions;
+#[cfg(test)]
+mod texts;

@@ -1,5 +1,6 @@
 // Numbers, masks and levels of lines, and what an entry clears.
 use lines::{Level, Line, Lines, NoSuchLine};
+use std::test::Fail;
 
 fn set(first: Line, second: Line) -> Lines {
     let mut lines = Lines::empty();
@@ -15,6 +16,13 @@ fn numbers(rt: HostRuntime) {
     assert_eq!(rt; Line::Fst.number(), 10);
     assert_eq!(rt; Line::try_from(8), Ok(Line::Fad));
     assert_eq!(rt; Line::try_from(11), Err(NoSuchLine(11)));
+}
+
+#[test]
+fn a_number_without_a_line_prints(rt: HostRuntime) -> Result<(), Fail> {
+    let text = format!(in rt.alloc(); "{}", NoSuchLine(11))?;
+    assert_eq!(rt; text.as_str(), "no line has number 11");
+    Ok(())
 }
 
 #[test]

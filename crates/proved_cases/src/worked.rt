@@ -96,3 +96,15 @@ fn worked_cases(rt: HostRuntime) -> Result<(), Fail> {
     overlaid(&rt, heap)?;
     entered(&rt, heap)
 }
+
+#[test]
+fn an_undefined_code_prints(rt: HostRuntime) -> Result<(), Fail> {
+    let code = UndefinedCode {
+        address: 0x1a0,
+        first: 0x60,
+        second: 0x48,
+    };
+    let text = format!(in rt.alloc(); "{code}")?;
+    assert_eq!(rt; text.as_str(), "the code 60H 48H at 1A0H is undefined");
+    Ok(())
+}
