@@ -2,4 +2,3 @@ pub mod Stack
 pub mod CallReturn
 pub mod PushPop
 pub mod EntryReturn
-pub mod SkipPass

@@ -54,9 +54,6 @@ pub puts_none : (old : List ℕ) → Puts old 0 [] old 0
 unfolding over
 puts_none old = record { after = refl; moves = refl; inside = omega arith; size = refl }
 
-pub puts_text : {old new : List ℕ} {at next : ℕ} {t u : List ℕ} → t ≡ u → Puts old at t new next → Puts old at u new next
-puts_text {old} {new} {at} {next} e p = let P : List ℕ → Type 0 = λ x. Puts old at x new next in subst P e p
-
 -- what was put at the start is the front of the buffer
 pub front : {old new : List ℕ} {n : ℕ} {t : List ℕ} → Puts old 0 t new n → take n new ≡ t
 unfolding over

@@ -1,9 +1,7 @@
-use Rattle.std.proofs.Common.{sym, ap, ◌∙◌, rules}
+use Rattle.std.proofs.Common.{sym, ap, ◌∙◌}
 use Rattle.board.specs.Flat.{flat_memory}
 use Rattle.board.proofs.Memory.{memory_back}
 use Rattle.session.specs.Play.{ending}
-use Rattle.session.specs.Sheet.{sheet}
-use Rattle.session.proofs.Putting.{puts_text}
 use Rattle.session.proofs.play.list.Goals as goal
 
 pub returns-in-Ok-clause-memory : goal.returns-in-Ok-clause-memory
@@ -13,7 +11,3 @@ returns-in-Ok-clause-memory c =
     ∙ (λ i. flat_memory (m.cells i) (m.rest i))
     ∙ sym (memory_back c.args.loader.memory c.args.loader.below)
     ∙ ap (λ answer. (ending c.args.loader answer).memory) (sym c.in-Ok.is)
-
-pub returns-in-Ok-clause-listing : goal.returns-in-Ok-clause-listing
-returns-in-Ok-clause-listing c =
-    puts_text (ap (λ core. sheet core.registers) c.into_machine-board.ensures.core ∙ ap (λ answer. (ending c.args.loader answer).text) (sym c.in-Ok.is)) (search rules)
