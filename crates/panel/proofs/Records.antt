@@ -1,10 +1,11 @@
 -- Records in order of their numbers, and which of them are due. Assumes nothing.
-use Rattle.std.proofs.Common.{◌≡◌, ℕ, zero, suc, ◌+◌, ◌-◌, ◌<◌, ◌≤◌, Bool, false, cond, ◌&&◌, ◌||◌, ltb, leb, List, [], ◌∷◌, length, get_or, take, drop, sym, refl, ap, ◌∙◌, subst, inl, inr, arith}
+use Rattle.std.proofs.Common.{◌≡◌, ℕ, zero, suc, ◌+◌, ◌-◌, ◌<◌, ◌≤◌, Bool, true, false, cond, ◌&&◌, ◌||◌, eqb, ltb, leb, List, [], ◌∷◌, length, get_or, take, drop, sym, refl, ap, ◌∙◌, subst, inl, inr, arith}
 use Rattle.std.proofs.Math.Numerals.{one-add}
 use Rattle.std.specs.List.{prefix_len}
-use Rattle.std.proofs.lemmas.List.Sums.{prefix_len-le-length, prefix_len_passes, prefix_len_stops, prefix_len-drop_no, prefix_len-drop_all}
-use Rattle.std.proofs.lemmas.List.{length-drop, get_or-drop}
-use Rattle.std.proofs.lemmas.Bool.{cases_lt, lt-ltb, lt-leb, le-leb, leb-true, leb-false}
+use Rattle.std.proofs.lemmas.List.Sums.{prefix_len-le-length, prefix_len_passes, prefix_len_stops}
+use mathlib.Core.Path.{fun_ext}
+use Rattle.std.proofs.lemmas.List.{length-drop, get_or-drop, at_drop_more}
+use Rattle.std.proofs.lemmas.Bool.{cases_lt, lt-leb, le-leb, leb-true, leb-false}
 use Rattle.std.proofs.lemmas.Bool.Decides.{nat_tests}
 use Rattle.panel.specs.declared.schedule.Due.{Due}
 use Rattle.panel.specs.Places.{InOrder, Gone, Coming, lines_in, due_in, no_record}
@@ -30,6 +31,38 @@ none_due (d ∷ ds) after until line later =
 abbrev pub by : ℕ → Due → Bool
 by until d = leb d.at until
 
+-- the records from the first on whose numbers are up to this one
+abbrev pub front : ℕ → List Due → List Due
+front until ds = take (prefix_len (by until) ds) ds
+
+-- a record in front, and those behind it
+pub front_more : (ds : List Due) (i until : ℕ) → i < length ds → (get_or ds i no_record).at ≤ until
+    → (prefix_len (by until) (drop i ds) ≡ 1 + prefix_len (by until) (drop (i + 1) ds))
+    × ((line : ℕ) → lines_in (front until (drop i ds)) line
+    ≡ ((eqb (get_or ds i no_record).line line && ltb line 11) || lines_in (front until (drop (i + 1) ds)) line))
+front_more ds i until h up =
+    let d : Due = get_or ds i no_record in
+    let behind : List Due = drop (i + 1) ds in
+    let yes : leb d.at until ≡ true = le-leb d.at until up in (
+      at_drop_more (prefix_len (by until)) ds i no_record h ∙ ap (λ b. cond b (1 + prefix_len (by until) behind) 0) yes,
+      λ line. at_drop_more (λ xs. lines_in (front until xs) line) ds i no_record h
+          ∙ ap (λ b. lines_in (take (cond b (1 + prefix_len (by until) behind) 0) (d ∷ behind)) line) yes
+          ∙ ap (λ n. lines_in (take n (d ∷ behind)) line) (one-add (prefix_len (by until) behind)),
+    )
+
+-- where the next is later, or there is none, the lines found before it are those of the front
+pub front_ends : (ds : List Due) (i until : ℕ) (found : ℕ → Bool) → prefix_len (by until) (drop i ds) ≡ 0
+    → i + prefix_len (by until) (drop i ds) ≡ prefix_len (by until) ds
+    → ((line : ℕ) → (found line || lines_in (front until (drop i ds)) line) ≡ lines_in (front until ds) line)
+    → found ≡ lines_in (take i ds)
+front_ends ds i until found none place keeps =
+    let whole : prefix_len (by until) ds ≡ i = omega (arith, none, place) in
+    fun_ext (λ line.
+    let empty : lines_in (front until (drop i ds)) line ≡ false = ap (λ n. lines_in (take n (drop i ds)) line) none in
+    let those : lines_in (front until ds) line ≡ lines_in (take i ds) line = ap (λ n. lines_in (take n ds) line) whole in
+    let all = keeps line in
+    grind (arith, nat_tests))
+
 -- the records due are those from the place on whose numbers the clock comes to
 pub due_from : (ds : List Due) (place clock until line : ℕ) → InOrder ds → Gone ds place clock → Coming ds place clock
     → lines_in (take (prefix_len (by until) (drop place ds)) (drop place ds)) line ≡ due_in ds clock until line
@@ -52,14 +85,6 @@ due_from (d ∷ ds) (suc place) clock until line order gone later =
     let rest = due_from ds place clock until line (λ i j h g. order (suc i) (suc j) (omega arith) (omega arith))
     (omega (arith, gone.0), λ k h. gone.1 (suc k) (omega arith)) (λ k h g. later (suc k) (omega arith) (omega arith)) in
     grind (arith, nat_tests)
-
--- none where the next is still to come, or there is no next
-pub none_next : (ds : List Due) (place until : ℕ) → (ltb place (length ds) && leb (get_or ds place no_record).at until) ≡ false
-    → prefix_len (by until) (drop place ds) ≡ 0
-none_next ds place until h = elim (cases_lt place (length ds)) [
-  | inl there ↦ prefix_len-drop_no (by until) ds place no_record there (sym (ap (λ b. b && leb (get_or ds place no_record).at until) (lt-ltb place (length ds) there)) ∙ h)
-  | inr past ↦ prefix_len-drop_all (by until) ds place past
-]
 
 -- the place after those records
 module _ (ds : List Due) (place clock until : ℕ) (gone : Gone ds place clock) (on : clock ≤ until) where

@@ -1,9 +1,9 @@
 // A schedule of records, and the clock that goes through it.
-ghost use Rattle.std.specs.Prelude.{◌≡◌, ◌+◌, ◌≤◌, ◌&&◌, length, min, nat_le, nat_lt, slice_index_or};
+ghost use Rattle.std.specs.Prelude.{◌≡◌, ◌+◌, ◌≤◌, take, min, nat_le};
 ghost use Rattle.std.specs.List.{prefix_len};
 ghost use Rattle.lines.specs.Of.{lines_of};
 ghost use Rattle.panel.specs.Bench.{last_number};
-ghost use Rattle.panel.specs.Places.{InOrder, Gone, Coming, lines_in, due_in, no_record};
+ghost use Rattle.panel.specs.Places.{InOrder, Gone, Coming, lines_in, due_in};
 ghost use Rattle.panel.specs.Schedule.{scheduled};
 
 use lines::{Line, Lines};
@@ -26,23 +26,28 @@ pub(crate) struct Schedule {
     ghost coming: { Coming records.items next clock },
 }
 
-// How many records from the first on have numbers up to this one. Not by halves: nearly always they are one or two.
-fn due_count(records: &[Due], until: u32) -> usize
-    ensures { result ≡ prefix_len (λ due. nat_le due.at until) records.now }
+// The clock stands still at its last number.
+fn clock_after(clock: u32, states: u8) -> u32
+    ensures { result ≡ min (clock + states) last_number }
 {
-    records.iter().take_while(|due| due.at <= until).count()
+    clock.saturating_add(u32::from(states))
 }
 
-fn lines_named(records: &[Due]) -> Lines
-    ensures { lines_of result ≡ lines_in records.now }
+// How many records from the first on have numbers up to this one, and their lines. Not by halves: nearly always they are one or two.
+fn due_by(records: &[Due], until: u32) -> (usize, Lines)
+    ensures count { result.0 ≡ prefix_len (λ due. nat_le due.at until) records.now }
+    ensures lines { lines_of result.1 ≡ lines_in (take result.0 records.now) }
 {
     let mut lines = Lines::empty();
-    for due in records {
+    for (count, due) in records.iter().enumerate() {
+        if due.at > until {
+            return (count, lines);
+        }
         if let Ok(line) = Line::try_from(due.line) {
             lines.insert(line);
         }
     }
-    lines
+    (records.len(), lines)
 }
 
 impl Schedule {
@@ -53,7 +58,7 @@ impl Schedule {
     {
         records.sort_unstable();
         // A record of number 0 never rises: the clock starts there, and does not move to it.
-        let next = due_count(records.as_slice(), 0);
+        let (next, _) = due_by(records.as_slice(), 0);
         Schedule {
             records,
             next,
@@ -61,43 +66,17 @@ impl Schedule {
         }
     }
 
-    // Whether the next record's number is at most this one.
-    fn is_due(&self, until: u32) -> bool
-        ensures { result ≡ (nat_lt self.now.next (length self.now.records.items) && nat_le (slice_index_or self.now.records.items self.now.next no_record).at until) }
-    {
-        self.records
-            .get(self.next)
-            .is_some_and(|due| due.at <= until)
-    }
-
-    // Passes the records up to a number, and answers their lines.
-    fn pass_due(&mut self, until: u32) -> Lines
-        requires { self.old.clock ≤ until }
-        ensures clock { self.new.clock ≡ until }
-        ensures same { self.new.records ≡ self.old.records }
-        ensures lines { lines_of result ≡ due_in self.old.records.items self.old.clock until }
-    {
-        let coming = &self.records[self.next..];
-        let due = due_count(coming, until);
-        let lines = lines_named(&coming[..due]);
-        self.next += due;
-        self.clock = until;
-        lines
-    }
-
-    // Moves the clock on, and answers the lines of the records that it comes to. It stands still at its last number.
+    // Moves the clock on, and answers the lines of the records that it comes to.
     pub(crate) fn advance(&mut self, states: u8) -> Lines
         ensures range { self.old.clock ≤ last_number }
         ensures clock { self.new.clock ≡ min (self.old.clock + states) last_number }
         ensures same { self.new.records ≡ self.old.records }
         ensures lines { lines_of result ≡ due_in self.old.records.items self.old.clock self.new.clock }
     {
-        let until = self.clock.saturating_add(u32::from(states));
-        // Nearly always the next record is still to come, so that is tested first.
-        if self.is_due(until) {
-            return self.pass_due(until);
-        }
+        let until = clock_after(self.clock, states);
+        let (due, lines) = due_by(&self.records[self.next..], until);
+        self.next += due;
         self.clock = until;
-        Lines::empty()
+        lines
     }
 }

@@ -10,8 +10,8 @@ invariant_of-result c =
     let ds = vec_items c.sort_unstable.new.self in
     let up : InOrder ds = in_order ds c.sort_unstable.ensures.sorted in
     let start : Gone ds 0 0 = (omega arith, λ k h. absurd (omega arith)) in
-    let due : c.due_count-next.result ≡ 0 + prefix_len (by 0) ds =
-    c.due_count-next.ensures ∙ ap (prefix_len (by 0)) c.as_slice.ensures.value ∙ sym (zero-add (prefix_len (by 0) ds)) in
+    let due : c.due_by-next.result.0 ≡ 0 + prefix_len (by 0) ds =
+    c.due_by-next.ensures.count ∙ ap (prefix_len (by 0)) c.as_slice.ensures.value ∙ sym (zero-add (prefix_len (by 0) ds)) in
     record {
       order = up;
       gone = subst (λ (n : ℕ). Gone ds n 0) (sym due) (gone_after ds 0 0 0 start (omega arith));
