@@ -32,11 +32,17 @@ impl TryFrom<u8> for Kind {
     ghost try_from_gives = { λ byte kind. kind ≡ ok_or (kind_of byte) UnknownKind };
 
     fn try_from(byte: u8) -> Result<Kind, RecordFault> {
-        Kind::ALL
-            .iter()
-            .find(|kind| u8::from(**kind) == byte)
-            .copied()
-            .ok_or(RecordFault::UnknownKind)
+        match byte {
+            1 => Ok(Kind::Cell),
+            2 => Ok(Kind::Page),
+            3 => Ok(Kind::Fix),
+            4 => Ok(Kind::Set),
+            5 => Ok(Kind::Grant),
+            6 => Ok(Kind::Signal),
+            7 => Ok(Kind::Reset),
+            8 => Ok(Kind::End),
+            _ => Err(RecordFault::UnknownKind),
+        }
     }
 }
 

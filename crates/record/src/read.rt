@@ -9,7 +9,8 @@ use crate::kind::Kind;
 use crate::types::{Found, Record};
 
 impl<'a> Record<'a> {
-    /// The record that stands at an offset of a session.
+    /// The record that stands at an offset of a session. Inline, since a caller that takes the record apart then tells its kind apart once.
+    #[inline]
     pub fn read(session: &'a [u8], offset: usize) -> Result<Found<'a>, RecordFault>
         ensures answer { found result ≡ finding session.now offset }
         ensures inside { IfOk result (λ f. (0 < f.length) × (offset + f.length ≤ length session.now)) }
@@ -46,8 +47,9 @@ fn read_first(rest: &[u8]) -> Result<(Record<'_>, usize), RecordFault>
         return Err(RecordFault::CutShort);
     };
     let kind = Kind::try_from(*kind)?;
-    let record = read_body(kind, body)?;
-    Ok((record, 1 + kind.body_length()))
+    // Asked before the body is read: behind it, the kind would be told apart once more for each record.
+    let length = 1 + kind.body_length();
+    Ok((read_body(kind, body)?, length))
 }
 
 fn read_body(kind: Kind, body: &[u8]) -> Result<Record<'_>, RecordFault>
