@@ -10,6 +10,13 @@ use super::Requests;
 use crate::tally::Tally;
 use lines::{Line, Lines};
 
+// What is counted of a line that had no signal.
+fn no_signal() -> Tally
+    ensures { result ≡ tally_of quiet }
+{
+    Tally::default()
+}
+
 impl Requests {
     // No line had a signal. A default by hand would be no shorter, and none can be derived beside a ghost field.
     pub fn new() -> Requests
@@ -17,7 +24,7 @@ impl Requests {
     {
         Requests {
             marks: Lines::empty(),
-            tallies: [Tally::default(); 11],
+            tallies: [no_signal(); 11],
         }
     }
 

@@ -1,4 +1,4 @@
-use Rattle.std.proofs.Common.{◌≡◌, get_or, replicate, ap, ◌∙◌}
+use Rattle.std.proofs.Common.{get_or, replicate, ap, ◌∙◌}
 use Rattle.requests.specs.Of.{requests_of}
 use Rattle.requests.specs.Request.{quiet, tally_of, request_of}
 use Rattle.requests.proofs.Places.{alike}
@@ -7,7 +7,4 @@ use Rattle.requests.proofs.requests.Requests.new.Goals as goal
 pub returns : goal.returns
 unfolding requests_of
 returns c =
-    let e = c.default.ensures in
-    let nothing : c.default.result ≡ tally_of quiet =
-    λ i. record { signals = e.0 i; merged = e.1.0 i; entered = e.1.1.0 i; tested = e.1.1.1.0 i; dropped = e.1.1.1.1 i } in
-    λ i k. request_of (c.empty.ensures i k) ((ap (λ t. get_or (replicate 11 t) k (tally_of quiet)) nothing ∙ alike 11 k (tally_of quiet)) i)
+    λ i k. request_of (c.empty.ensures i k) ((ap (λ t. get_or (replicate 11 t) k (tally_of quiet)) c.no_signal.ensures ∙ alike 11 k (tally_of quiet)) i)
